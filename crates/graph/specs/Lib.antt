@@ -1,0 +1,9 @@
+pub mod Model
+pub mod Paths
+pub mod Refusals
+pub mod Growth
+pub mod Table
+pub mod ListModel
+pub mod Square
+pub mod MatrixModel
+pub mod Facts
