@@ -1,7 +1,7 @@
 -- One bit more in a row of a square of bits. Assumes nothing.
 use mathlib.Core.Path.{_≡_, refl, sym, ap, _∙_}
 use mathlib.Core.Bool.{Bool, true, false, or-false, _||_, _&&_, cond}
-use mathlib.Core.List.{List, [], _∷_}
+use mathlib.Core.List.{List}
 use mathlib.Core.Logic.{_⊎_, inl, inr, ⊎-elim}
 use Prim.Native.Nat.{ℕ, zero, suc, _+_, _*_, _-_, _/_, _%_, _^_, _<_, _≤_}
 use native.Mathlib.Omega.{arith}
@@ -9,9 +9,9 @@ use native.Mathlib.Nat.{one-mul, suc-mul}
 use lib.Bits.{bitOr, or-shr, or-mod}
 use lib.Dec.{eqb}
 use lib.ListN.{length, getD, set, replicate}
-use Rattle.std.proofs.shelf.Bits.{pow-add, pow-below, pow-pos, shl-shr, div-below, one-shl}
+use Rattle.std.proofs.shelf.Bits.{pow-add, pow-below, pow-pos, shl-shr, div-below}
 use Rattle.std.proofs.shelf.Lists.{getD-set-same, getD-set-other, getD-replicate, getD-past, length-replicate}
-use Rattle.std.proofs.shelf.Tests.{cases-order, cases-eq, cases-lt, cases-bool, eq-eqb, ne-eqb, or-cases, and-parts, eqb-true, both-ways, and-left, and-right, or-from}
+use Rattle.std.proofs.shelf.Tests.{cases-order, cases-eq, cases-lt, cases-bool, eq-eqb, ne-eqb, or-cases, and-parts, eqb-true, and-left, and-right, or-from}
 use Rattle.graph.specs.Model.{sum-below, pairs}
 use Rattle.graph.specs.Square.{flagged, at, Tails, Heads, Apart}
 use Rattle.graph.proofs.Counts.{pairs-join}

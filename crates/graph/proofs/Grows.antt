@@ -2,21 +2,21 @@
 use mathlib.Core.Path.{_≡_, refl, sym, ap, _∙_}
 use mathlib.Core.Bool.{Bool, true, false, cond, _&&_, _||_, not}
 use mathlib.Core.List.{List, [], _∷_, _++_, map}
-use mathlib.Core.Logic.{_⊎_, inl, inr, ⊎-elim}
-use Prim.Native.Nat.{ℕ, zero, suc, _+_, _<_, _≤_, min}
+use mathlib.Core.Logic.{_⊎_, ⊎-elim}
+use Prim.Native.Nat.{ℕ, _+_, _<_}
 use native.Mathlib.Omega.{arith}
 use lib.Dec.{eqb, ltb}
 use lib.ListN.{length, take, drop, set, getD}
-use Rattle.std.proofs.shelf.Lists.{take-more-set, take-more, length-take, getD-drop, drop-drop, drop-set-lt, map-more}
+use Rattle.std.proofs.shelf.Lists.{take-more-set, take-more, getD-drop, drop-drop, drop-set-lt, map-more}
 use native.Mathlib.Nat.{add-zero}
-use Rattle.std.proofs.shelf.Tests.{or-cases, or-left, or-right, and-parts, and-from, and-left, and-right, eqb-true, eqb-false, eq-eqb, ne-eqb, both-ways, cases-eq, cases-bool, cond-true, cond-false, or-from, or-parts}
+use Rattle.std.proofs.shelf.Tests.{or-cases, or-left, or-right, and-parts, and-from, and-right, eqb-true, eqb-false, eq-eqb, ne-eqb, both-ways, cases-bool, cond-true, cond-false, or-from, or-parts}
 use Rattle.graph.specs.Model.{pairs}
 use Rattle.graph.specs.Table.{is-arc, has, drawn}
 use Rattle.graph.specs.Facts.{drawn-parts, drawn-from}
 use Rattle.graph.specs.declared.list.Arc.{Arc}
 use Rattle.graph.specs.declared.list.ArcList.{ArcList}
-use Rattle.graph.proofs.Counts.{pairs-none, pairs-one, pairs-join, pairs-same, pairs-more}
-use Rattle.graph.proofs.Tables.{has-push, has-none}
+use Rattle.graph.proofs.Counts.{pairs-join, pairs-same, pairs-more}
+use Rattle.graph.proofs.Tables.{has-push}
 
 pub bool-same : (x y : Bool) → (x ≡ true → y ≡ true) → (y ≡ true → x ≡ true) → x ≡ y
 bool-same true y f g = sym (f refl)
@@ -25,26 +25,6 @@ bool-same false false f g = refl
 
 pub no-draw : (es : List Arc) (n a b : ℕ) → has es a b ≡ false → drawn es n a b ≡ false
 no-draw es n a b h = and-right (ltb a n && ltb b n) (not (eqb a b) && has es a b) (and-right (not (eqb a b)) (has es a b) h)
-
-has-cons : (e : Arc) (es : List Arc) (a b : ℕ) → has (e ∷ es) a b ≡ true → (a ≡ e .tail → b ≡ e .head → ⊥) → has es a b ≡ true
-unfolding has
-has-cons e es a b h ne = ⊎-elim
-    (λ k. let p = and-parts (eqb (e .tail) a) (eqb (e .head) b) k in
-    absurd (ne (sym (eqb-true _ _ (p .0))) (sym (eqb-true _ _ (p .1)))))
-    (λ k. k)
-    (or-cases (is-arc a b e) (has es a b) h)
-
--- a table draws no more arcs than it has entries
-pub size-le : (es : List Arc) (n : ℕ) → pairs (drawn es n) n ≤ length es
-size-le [] n = let z : pairs (drawn [] n) n ≡ 0 = pairs-none _ n (λ a b. no-draw [] n a b (has-none a b)) in omega arith
-size-le (e ∷ es) n =
-    let i : pairs (drawn es n) n ≤ length es = size-le es n in
-    let s : pairs (drawn (e ∷ es) n) n ≤ pairs (drawn es n) n + 1 = pairs-one (drawn es n) (drawn (e ∷ es) n) n (e .tail) (e .head)
-    (λ a b ne h. let d = drawn-parts (e ∷ es) n a b h in drawn-from es n a b (d .0) (d .1) (d .2) (has-cons e es a b (d .3) ne)) in
-    omega arith
-
-pub size-le-used : (T : List Arc) (m n : ℕ) → pairs (drawn (take m T) n) n ≤ m
-size-le-used T m n = omega (arith, size-le (take m T) n, length-take m T)
 
 pub drawn-push : (es : List Arc) (n u v : ℕ) → u < n → v < n → (u ≡ v → ⊥) → (a b : ℕ) →
     drawn (es ++ record { tail = u; head = v } ∷ []) n a b ≡ (drawn es n a b || (eqb a u && eqb b v))

@@ -1,14 +1,14 @@
 -- What a scan of a table of arcs keeps. Assumes nothing.
 use mathlib.Core.Path.{_≡_, refl, sym, ap, _∙_}
-use mathlib.Core.Bool.{Bool, true, false, _&&_, _||_, not, or-false, or-assoc, and-comm}
+use mathlib.Core.Bool.{Bool, true, false, _&&_, _||_, or-false, or-assoc, and-comm}
 use mathlib.Core.List.{List, [], _∷_, _++_}
-use mathlib.Core.Logic.{_⊎_, inl, inr, ⊎-elim}
+use mathlib.Core.Logic.{_⊎_, ⊎-elim}
 use Prim.Native.Nat.{ℕ, zero, suc, _+_, _<_, _≤_}
 use native.Mathlib.Omega.{arith}
-use lib.Dec.{eqb, ltb}
+use lib.Dec.{eqb}
 use lib.ListN.{length, take, getD}
 use Rattle.std.proofs.shelf.Lists.{take-more}
-use Rattle.std.proofs.shelf.Tests.{or-cases, or-left, or-right, and-parts, and-from, eqb-true, eqb-false, eq-eqb, ne-eqb, ltb-true, both-ways, lt-ltb, not-true, not-from-false, cases-bool}
+use Rattle.std.proofs.shelf.Tests.{or-cases, or-left, or-right, and-parts, and-from, eqb-true, eq-eqb, both-ways, cases-bool}
 use Rattle.graph.specs.Table.{is-arc, has, drawn}
 use Rattle.graph.specs.Facts.{drawn-parts, drawn-from}
 use Rattle.graph.specs.declared.list.Arc.{Arc}

@@ -1,6 +1,6 @@
 // A graph as a table of arcs that the caller lends. No invariant is kept: the fields mean a graph whatever they hold.
 ghost use mathlib.Core.Path.{_≡_};
-ghost use Prim.Native.Nat.{ℕ, _+_, _<_, _≤_, min};
+ghost use Prim.Native.Nat.{_+_, _<_, _≤_, min};
 ghost use lib.ListN.{length};
 ghost use lib.Dec.{lit≤};
 ghost use Rattle.graph.specs.Model.{Empty};

@@ -1,11 +1,11 @@
 // The calls of a square of bits.
 ghost use mathlib.Core.Path.{_≡_};
-ghost use Prim.Native.Nat.{ℕ, _+_, _<_, _≤_};
+ghost use Prim.Native.Nat.{_+_, _<_, _≤_};
 ghost use lib.Dec.{lit≤};
 ghost use Rattle.std.specs.declared.result.Result.the-variants.{Err};
 ghost use Rattle.graph.specs.Model.{Empty};
 ghost use Rattle.graph.specs.Square.{flagged};
-ghost use Rattle.graph.specs.Growth.{VertexAdded, ArcAdded};
+ghost use Rattle.graph.specs.Growth.{ArcAdded};
 ghost use Rattle.graph.specs.MatrixModel.{matrix-model, matrix-arc-limit, LimitOnlyWhenComplete};
 ghost use Rattle.graph.specs.Facts.{matrix-proper, matrix-bounded};
 ghost use Rattle.graph.specs.declared.refusal.Refusal.the-variants.{LimitReached};

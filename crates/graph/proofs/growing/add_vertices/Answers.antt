@@ -1,6 +1,5 @@
 use native.Mathlib.Omega.{arith}
-use mathlib.Core.Path.{_≡_, refl, subst, sym, _∙_}
-use Prim.Native.Nat.{_<_}
+use mathlib.Core.Path.{_≡_, refl, subst, _∙_}
 use Rattle.graph.specs.Growth.{MoreVertices}
 use Rattle.graph.proofs.growing.add_vertices.Needs as need
 

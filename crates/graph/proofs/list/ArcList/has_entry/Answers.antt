@@ -1,11 +1,9 @@
 use native.Mathlib.Omega.{arith}
-use mathlib.Core.Path.{sym, ap, _∙_}
-use lib.ListN.{take}
+use mathlib.Core.Path.{sym, _∙_}
 use Prim.Native.Nat.{_<_}
 use mathlib.Core.Logic.{⊎-elim}
 use Rattle.graph.specs.ListModel.{taken}
-use Rattle.std.proofs.shelf.Tests.{or-right, or-from, and-from, and-left, and-right, eq-eqb, ne-eqb}
-use Rattle.graph.specs.Table.{has}
+use Rattle.std.proofs.shelf.Tests.{or-from, and-left, and-right, ne-eqb}
 use Rattle.graph.proofs.Tables.{has-none, has-more, has-at}
 use Rattle.graph.proofs.list.ArcList.has_entry.Needs as need
 

@@ -3,7 +3,6 @@ use mathlib.Core.Path.{_≡_, refl}
 use mathlib.Core.Bool.{false}
 use Prim.Native.Nat.{ℕ, min}
 use lib.ListN.{length, take}
-use Rattle.graph.specs.Model.{pairs}
 use Rattle.graph.specs.Table.{drawn}
 use Rattle.graph.proofs.Tables.{beyond-head}
 use Rattle.graph.proofs.Counts.{pairs-none}

@@ -1,9 +1,9 @@
 use native.Mathlib.Omega.{arith}
-use mathlib.Core.Path.{_≡_, refl, sym, ap, _∙_}
+use mathlib.Core.Path.{_≡_, sym, ap, _∙_}
 use mathlib.Core.Path.{subst}
 use mathlib.Core.Logic.{⊎-elim, inl, inr}
-use Prim.Native.Nat.{ℕ, _+_, _<_, _≤_, min}
-use lib.ListN.{length, take, set, length-set, getD}
+use Prim.Native.Nat.{ℕ, _+_, _<_, min}
+use lib.ListN.{length, length-set, getD}
 use Rattle.graph.specs.declared.list.Arc.{Arc}
 use Rattle.graph.specs.ListModel.{taken, list-order}
 use Rattle.graph.proofs.Grows.{drawn-grown, size-grown, swept-out, swept-in, front-set, front-keep, back-set, back-keep, unchanged, swept, Swept}

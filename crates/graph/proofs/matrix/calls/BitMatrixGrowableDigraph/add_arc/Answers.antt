@@ -1,7 +1,7 @@
 use native.Mathlib.Omega.{arith}
 use mathlib.Core.Path.{_≡_, refl, sym}
 use mathlib.Core.Bool.{false}
-use Prim.Native.Nat.{ℕ, _<_, _≤_, _*_, _%_, _^_}
+use Prim.Native.Nat.{ℕ, _<_, _*_, _%_, _^_}
 use lib.ListN.{length}
 use Rattle.std.proofs.shelf.Bits.{one-shl}
 use Rattle.graph.specs.Square.{at}
