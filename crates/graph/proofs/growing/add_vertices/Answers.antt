@@ -1,5 +1,7 @@
 use native.Mathlib.Omega.{arith}
 use mathlib.Core.Path.{_≡_, refl, subst, _∙_}
+use Prim.Native.Nat.{ℕ, _+_}
+use Rattle.graph.specs.Model.{Model}
 use Rattle.graph.specs.Growth.{MoreVertices}
 use Rattle.graph.proofs.growing.add_vertices.Needs as need
 
@@ -13,11 +15,14 @@ pub returns-in-Break-add-vertex : need.returns-in-Break-add-vertex
 returns-in-Break-add-vertex g c =
     absurd (omega (arith, c .in-Break-add-vertex .ensures tt .grows .1, c .loop .inv .0 .order, c .if-count-free .left, g .G·Digraph .bounded (c .args .graph .now)))
 
+-- one vertex more than k more
+one-more : (g h i : Model) (k : ℕ) → MoreVertices g h k → MoreVertices h i 1 → MoreVertices g i (k + 1)
+one-more g h i k p q = record { order = omega (arith, p .order, q .order); arcs = λ a b. q .arcs a b ∙ p .arcs a b }
+
 pub loop-again : need.loop-again
 loop-again g c =
     let e = c .in-Continue-add-vertex .ensures tt in
-    let was = c .loop .inv .0 in
-    (record { order = omega (arith, e .grows .2 .order, was .order); arcs = λ a b. e .grows .2 .arcs a b ∙ was .arcs a b }, e .limit ∙ c .loop .inv .1)
+    (one-more _ _ _ (c .loop .counter) (c .loop .inv .0) (e .grows .2), e .limit ∙ c .loop .inv .1)
 
 pub returns : need.returns
 returns g c =

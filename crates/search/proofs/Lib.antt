@@ -1,0 +1,4 @@
+mod Marks
+mod Lists
+mod Listing
+mod Determined
