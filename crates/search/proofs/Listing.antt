@@ -74,6 +74,7 @@ module _ (m : Model) (s : ℕ) (before : List ℕ) where
       all = λ x r. ∥∥₁-elim r (Bool-set _ _) (λ p. h .all x (path-below m k p b) r);
     };
     few = h .few;
+    below = all-weaker _ (λ x. x < m .order) (λ x i. i .0) (take count out) (h .only);
     rest = h .rest;
   }
 

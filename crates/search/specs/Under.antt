@@ -38,6 +38,7 @@ pub record Under (g : Model) (s : ℕ) (list : List ℕ) : Type 0 where
 pub record UnderWritten (g : Model) (s : ℕ) (before after : List ℕ) (count : ℕ) : Type 0 where
   pub lists : Under g s (take count after)
   pub few : count ≤ g .order
+  pub below : All (λ v. v < g .order) (take count after)
   pub rest : drop count after ≡ drop count before
 
 -- what `under` answers of s, and what the slice holds after

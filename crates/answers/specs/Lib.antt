@@ -1,0 +1,4 @@
+pub mod Texts
+pub mod Held
+pub mod Printed
+pub mod Appending

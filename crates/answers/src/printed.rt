@@ -1,0 +1,53 @@
+// The printed lines, each with its line feed.
+ghost use mathlib.Core.Path.{_≡_};
+ghost use Prim.Native.Nat.{_<_, _≤_};
+ghost use lib.ListN.{length};
+ghost use Rattle.std.specs.shelf.Lists.{All};
+ghost use Rattle.answers.specs.Texts.{kept};
+ghost use Rattle.answers.specs.Held.{held};
+ghost use Rattle.answers.specs.Printed.{header-line, under-line, fault-line};
+use crate::buffer::LineBuffer;
+
+// What was read: the library's number, its vertices and its arcs.
+pub fn header(library: u16, papers: u16, arcs: u16) -> LineBuffer
+    ensures { λ r. ⌜ held r ≡ header-line library papers arcs ⌝ }
+{
+    let mut line = LineBuffer::new();
+    line.text(b"library=");
+    line.number(library as usize);
+    line.text(b" papers=");
+    line.number(papers as usize);
+    line.text(b" arcs=");
+    line.number(arcs as usize);
+    line.text(b"\n");
+    line
+}
+
+// The vertices that s reaches. The line is whole for every list of at most 512 numbers below 1000, so for every list of vertices.
+pub fn under(s: u16, list: &[u16]) -> LineBuffer
+    ensures front { λ r. ⌜ held r ≡ kept (under-line s (now (list .entry))) ⌝ }
+    ensures whole { λ r. ⌜ (length (now (list .entry)) ≤ 512 → All (λ x. x < 1000) (now (list .entry)) → held r ≡ under-line s (now (list .entry))) ⌝ }
+{
+    let mut line = LineBuffer::new();
+    line.text(b"under=");
+    line.number(s as usize);
+    line.text(b" count=");
+    line.number(list.len());
+    line.text(b" list=");
+    line.list(list);
+    line.text(b"\n");
+    line
+}
+
+// The fault of that number, at the line of that number.
+pub fn fault(number: u16, at: u32) -> LineBuffer
+    ensures { λ r. ⌜ held r ≡ fault-line number at ⌝ }
+{
+    let mut line = LineBuffer::new();
+    line.text(b"fault=");
+    line.number(number as usize);
+    line.text(b" line=");
+    line.number(at as usize);
+    line.text(b"\n");
+    line
+}

@@ -1,0 +1,3 @@
+mod Answering
+mod Lines
+mod Closing

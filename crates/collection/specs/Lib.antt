@@ -1,0 +1,4 @@
+pub mod Faults
+pub mod Moves
+pub mod Runs
+pub mod Parts

@@ -1,0 +1,92 @@
+-- What a line of a collection file does, and what answers it. Assumes nothing.
+use mathlib.Core.Path.{_≡_}
+use mathlib.Core.List.{List, []}
+use Prim.Native.Nat.{ℕ, _+_, _≤_, _<_}
+use Rattle.std.specs.declared.result.Result.{Result}
+use Rattle.std.specs.declared.result.Result.the-variants.{Ok, Err}
+use Rattle.graph.specs.Model.{Model}
+use Rattle.graph.specs.Growth.{VerticesAdded, ArcAdded}
+use Rattle.graph.specs.declared.refusal.Refusal.{Refusal}
+use Rattle.search.specs.declared.Refusal.the-variants.{NoVertex}
+use Rattle.search.specs.Under.{Under as Reached}
+use Rattle.lines.specs.declared.Line.{Line}
+use Rattle.lines.specs.declared.Line.the-variants.{Library, Papers, Arc, End, Ask, Trace, Under}
+use Rattle.answers.specs.Printed.{header-line, under-line}
+use Rattle.collection.specs.declared.faults.Fault.{Fault}
+use Rattle.collection.specs.declared.faults.Fault.the-variants.{Growth, Question, Order}
+use Rattle.collection.specs.declared.machine.Place.{Place}
+use Rattle.collection.specs.declared.machine.Place.the-variants.{BeforeLibrary, BeforePapers, AmongArcs, AmongQuestions}
+use Rattle.collection.specs.declared.machine.Machine.{Machine}
+
+-- before the first line
+abbrev pub start : Machine
+start = record { place = BeforeLibrary; library = 0; arcs = 0 }
+
+-- the place where a line of this kind stands
+abbrev pub home : Line → Place
+home (Library n) = BeforeLibrary
+home (Papers n) = BeforePapers
+home (Arc u v) = AmongArcs
+home (End n) = AmongArcs
+home (Ask s t) = AmongQuestions
+home (Trace s t) = AmongQuestions
+home (Under s) = AmongQuestions
+
+-- a refusal to grow as a fault
+abbrev pub carried : Result (Unit {0}) Refusal → Result (Unit {0}) Fault
+carried (Ok x) = Ok x
+carried (Err e) = Err (Growth e)
+
+-- m after a call that was answered, m′ after one that was refused
+abbrev pub after : Result (Unit {0}) Refusal → Machine → Machine → Machine
+after (Ok x) m m′ = m
+after (Err e) m m′ = m′
+
+-- a question about s and t: refused where one is no vertex
+pub record Asked (g : Model) (s t : ℕ) (r : Result (Unit {0}) Fault) : Type 0 where
+  pub there : s < g .order → t < g .order → r ≡ Ok tt
+  pub absent : (s < g .order → t < g .order → ⊥) → r ≡ Err (Question NoVertex)
+
+-- the end of the arcs: the count is the number of arc lines, or out of place
+pub record Counted (m : Machine) (count : ℕ) (r : Result (Unit {0}) Fault) (m′ : Machine) : Type 0 where
+  pub right : count ≡ m .arcs → (r ≡ Ok tt) × (m′ ≡ record { place = AmongQuestions; library = m .library; arcs = m .arcs })
+  pub wrong : (count ≡ m .arcs → ⊥) → (r ≡ Err Order) × (m′ ≡ m)
+
+-- what a line does in its place, from m and g to m′ and g′: `most` is the vertex limit and `limit` the arc limit
+abbrev pub Does : ℕ → ℕ → Machine → Model → Line → Result (Unit {0}) Fault → Machine → Model → Type 0
+Does most limit m g (Library k) r m′ g′ = (r ≡ Ok tt) × (m′ ≡ record { place = BeforePapers; library = k; arcs = m .arcs }) × (g′ ≡ g)
+Does most limit m g (Papers k) r m′ g′ =
+    (q : Result (Unit {0}) Refusal) × VerticesAdded most k g g′ q × (r ≡ carried q)
+    × (m′ ≡ after q (record { place = AmongArcs; library = m .library; arcs = m .arcs }) m)
+Does most limit m g (Arc u v) r m′ g′ =
+    (q : Result (Unit {0}) Refusal) × ArcAdded limit g g′ u v q × (r ≡ carried q)
+    × (m′ ≡ after q (record { place = AmongArcs; library = m .library; arcs = m .arcs + 1 }) m)
+Does most limit m g (End k) r m′ g′ = Counted m k r m′ × (g′ ≡ g)
+Does most limit m g (Ask s t) r m′ g′ = Asked g s t r × (m′ ≡ m) × (g′ ≡ g)
+Does most limit m g (Trace s t) r m′ g′ = Asked g s t r × (m′ ≡ m) × (g′ ≡ g)
+Does most limit m g (Under s) r m′ g′ = (r ≡ Ok tt) × (m′ ≡ m) × (g′ ≡ g)
+
+-- a line in its place does what it says, and elsewhere it is out of place and changes nothing
+pub record Moves (most limit : ℕ) (m : Machine) (g : Model) (l : Line) (r : Result (Unit {0}) Fault) (m′ : Machine) (g′ : Model) : Type 0 where
+  pub there : m .place ≡ home l → Does most limit m g l r m′ g′
+  pub elsewhere : (m .place ≡ home l → ⊥) → (r ≡ Err Order) × (m′ ≡ m) × (g′ ≡ g)
+
+-- the text that answers a line: the end of the arcs by what was read, and `under` by the vertices that are reached
+abbrev pub Answers : Machine → Model → Line → List ℕ → Type 0
+Answers m g (Library n) text = text ≡ []
+Answers m g (Papers n) text = text ≡ []
+Answers m g (Arc u v) text = text ≡ []
+Answers m g (End n) text = text ≡ header-line (m .library) (g .order) (m .arcs)
+Answers m g (Ask s t) text = text ≡ []
+Answers m g (Trace s t) text = text ≡ []
+Answers m g (Under s) text = (list : List ℕ) × Reached g s list × (text ≡ under-line s list)
+
+-- why a line is not answered: `under` of what is no vertex
+abbrev pub Unanswered : Model → Line → Fault → Type 0
+Unanswered g (Library n) f = ⊥
+Unanswered g (Papers n) f = ⊥
+Unanswered g (Arc u v) f = ⊥
+Unanswered g (End n) f = ⊥
+Unanswered g (Ask s t) f = ⊥
+Unanswered g (Trace s t) f = ⊥
+Unanswered g (Under s) f = (g .order ≤ s) × (f ≡ Question NoVertex)

@@ -1,0 +1,5 @@
+pub mod Splits
+pub mod Numbers
+pub mod Pairs
+pub mod Forms
+pub mod LineFeeds
