@@ -103,6 +103,7 @@ fn read_input(input: &[u8], out: &mut Output) -> Result<(), FileFault>
 }
 
 // How a run ended: how many bytes of the output are written, and the fault if there was one.
+#[derive(Clone, Copy)]
 pub struct Finished {
     pub written: usize,
     pub fault: Option<FileFault>,
