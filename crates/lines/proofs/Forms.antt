@@ -1,23 +1,21 @@
 -- The permitted form of a line tells the line, by its keyword and its numbers. Assumes nothing.
 use mathlib.Core.Path.{_≡_, refl, sym, ap, subst, _∙_}
-use mathlib.Core.List.{List, _∷_, _++_}
+use mathlib.Core.List.{List}
 use Prim.Native.Nat.{ℕ}
 use native.Mathlib.Omega.{arith}
 use borrow.Author.Needs.{needs}
 use Rattle.std.specs.Written.{decimal}
+use Rattle.std.specs.Options.{Cases}
+use Rattle.std.specs.declared.option.Option.{Option}
 use Rattle.std.specs.declared.option.Option.the-variants.{Some, None}
 use Rattle.lines.specs.declared.Kind.{Kind}
 use Rattle.lines.specs.declared.Line.{Line}
 use Rattle.lines.specs.declared.Line.the-variants.{Library, Papers, Arc, End, Ask, Trace, Under}
 use Rattle.lines.specs.Forms.{decimal-pair, written, Fits, Writes, WritesNone, ParsesTo}
-use Rattle.lines.specs.Parts.{keyword, Lacks, SplitsAt}
+use Rattle.lines.specs.Parts.{keyword, equals-sign, form, Lacks, SplitsAt}
 use Rattle.lines.proofs.Splits.{same-split, not-lacked, lacks-by-test}
 use Rattle.lines.proofs.Numbers.{same-number}
 use Rattle.lines.proofs.Pairs.{same-pair}
-
--- the byte between the keyword and the numbers
-abbrev pub equals-sign : ℕ
-equals-sign = 61
 
 abbrev pub kind : Line → Kind
 kind (Library n) = Kind.Library
@@ -38,7 +36,7 @@ numbers (Ask s t) = decimal-pair s t
 numbers (Trace s t) = decimal-pair s t
 numbers (Under s) = decimal s
 
-in-parts : (l : Line) → written l ≡ keyword (kind l) ++ equals-sign ∷ numbers l
+in-parts : (l : Line) → written l ≡ form (kind l) (numbers l)
 in-parts (Library n) = refl
 in-parts (Papers n) = refl
 in-parts (Arc u v) = refl
@@ -77,7 +75,7 @@ same-line (Under s) m f g e = search (needs, same-number)
 not-both : {A : Type 0} (x : A) → Some x ≡ None → ⊥
 not-both x e = let z : _≡_ {A = ℕ} 0 1 = cc in omega arith
 
-pub parses-to-some : (bytes : List ℕ) (l : Line) → Writes bytes l → ParsesTo bytes (Some l)
+parses-to-some : (bytes : List ℕ) (l : Line) → Writes bytes l → ParsesTo bytes (Some l)
 parses-to-some bytes l w = record {
   some = λ m. ((λ e. let same : l ≡ m = cc in subst (Writes bytes) same w), λ v. ap Some (same-line l m (w .fits) (v .fits) (sym (w .text) ∙ v .text)));
   none = ((λ e. absurd (not-both l e)), λ n. absurd (n l w));
@@ -88,3 +86,8 @@ parses-to-none bytes n = record {
   some = λ m. ((λ e. absurd (not-both m (sym e))), λ v. absurd (n m v));
   none = ((λ e. n), λ p. refl);
 }
+
+-- what `parse_value` answers, of the bytes of the whole line
+pub parses-to : (bytes : List ℕ) (answer : Option Line) → Cases answer (WritesNone bytes) (Writes bytes) → ParsesTo bytes answer
+parses-to bytes None n = parses-to-none bytes n
+parses-to bytes (Some l) w = parses-to-some bytes l w

@@ -25,7 +25,7 @@ two-numbers word e m n h =
     lacks-append line-feed word _ (lacks-by-test line-feed word e)
     (lacks-append line-feed (decimal m) _ (number-lacks m (h .0)) (lacks-cons line-feed comma (decimal n) (λ q. omega arith) (number-lacks n (h .1))))
 
-form-lacks : (l : Line) → Fits l → Lacks (written l) line-feed
+pub form-lacks : (l : Line) → Fits l → Lacks (written l) line-feed
 form-lacks (Library n) f = one-number (codes "library=") refl n f
 form-lacks (Papers n) f = one-number (codes "papers=") refl n f
 form-lacks (Arc u v) f = two-numbers (codes "arc=") refl u v f

@@ -2,13 +2,13 @@
 use mathlib.Core.Path.{_≡_, refl, sym, ap, _∙_}
 use mathlib.Core.Bool.{Bool, true, not, _&&_}
 use mathlib.Core.List.{List, [], _∷_, _++_}
-use Prim.Native.Nat.{ℕ, zero, suc, _+_, _-_, _<_}
+use Prim.Native.Nat.{ℕ, zero, suc, _+_}
 use native.Mathlib.Omega.{arith}
 use lib.Dec.{eqb}
-use lib.ListN.{length, getD, take, drop}
-use Rattle.std.proofs.shelf.Lists.{take-rest, take-append-drop, drop-more, getD-take, length-take-le}
+use lib.ListN.{take, drop}
+use Rattle.std.proofs.shelf.Lists.{take-append-drop, drop-more, getD-take, length-take-le}
 use Rattle.std.proofs.shelf.Tests.{both-ways, not-true, and-parts, eq-eqb}
-use Rattle.lines.specs.Parts.{Lacks, SplitsAt}
+use Rattle.lines.specs.Parts.{Lacks, FirstPlace, SplitsAt}
 
 -- two ways to split at b are the same
 pub same-split : (b : ℕ) (f f′ r r′ : List ℕ) → Lacks f b → Lacks f′ b → f ++ b ∷ r ≡ f′ ++ b ∷ r′ → (f ≡ f′) × (r ≡ r′)
@@ -27,14 +27,12 @@ pub not-lacked : (b : ℕ) (f r : List ℕ) → Lacks (f ++ b ∷ r) b → ⊥
 not-lacked b [] r p = p 0 (omega arith) refl
 not-lacked b (x ∷ f) r p = not-lacked b f r (λ k l. p (suc k) (omega arith))
 
--- what `split_at_first` returns at i, the first place of b
-pub split-at-place : (bytes : List ℕ) (b i : ℕ) → i < length bytes → ((k : ℕ) → k < i → getD bytes k 0 ≡ b → ⊥) → getD bytes i 0 ≡ b → SplitsAt bytes b (take i bytes) (take (length bytes - (i + 1)) (drop (i + 1) bytes))
-split-at-place bytes b i h p e =
-    rw take-rest
-    (record {
-      whole = sym (take-append-drop i bytes) ∙ ap (λ t. take i bytes ++ t) (drop-more bytes i 0 h ∙ ap (λ x. x ∷ drop (i + 1) bytes) e);
-      first = λ k l q. let m = length-take-le i bytes (omega arith) in p k (omega arith) (sym (getD-take i bytes k 0 (omega arith)) ∙ q);
-    })
+-- bytes split at the first place of b
+pub split-at-place : (bytes : List ℕ) (b i : ℕ) → FirstPlace bytes b i → SplitsAt bytes b (take i bytes) (drop (i + 1) bytes)
+split-at-place bytes b i p = record {
+  whole = sym (take-append-drop i bytes) ∙ ap (λ t. take i bytes ++ t) (drop-more bytes i 0 (p .within) ∙ ap (λ x. x ∷ drop (i + 1) bytes) (p .here));
+  first = λ k l q. let m = length-take-le i bytes (omega (arith, p .within)) in p .before k (omega arith) (sym (getD-take i bytes k 0 (omega arith)) ∙ q);
+}
 
 pub lacks-cons : (b x : ℕ) (xs : List ℕ) → (x ≡ b → ⊥) → Lacks xs b → Lacks (x ∷ xs) b
 lacks-cons b x xs n p zero l q = n q

@@ -18,9 +18,23 @@ keyword Kind.Ask = codes "ask"
 keyword Kind.Trace = codes "trace"
 keyword Kind.Under = codes "under"
 
+-- the byte between the keyword and what follows
+abbrev pub equals-sign : ℕ
+equals-sign = 61
+
+-- the bytes of a line of this kind with value after the sign
+abbrev pub form : Kind → List ℕ → List ℕ
+form kind value = keyword kind ++ equals-sign ∷ value
+
 -- the byte b stands nowhere in bytes
 abbrev pub Lacks : List ℕ → ℕ → Type 0
 Lacks bytes b = (k : ℕ) → k < length bytes → getD bytes k 0 ≡ b → ⊥
+
+-- i is the first place of b in bytes
+pub record FirstPlace (bytes : List ℕ) (b i : ℕ) : Type 0 where
+  pub within : i < length bytes
+  pub here : getD bytes i 0 ≡ b
+  pub before : (k : ℕ) → k < i → getD bytes k 0 ≡ b → ⊥
 
 -- front and back are what stands before and after the first b in bytes
 pub record SplitsAt (bytes : List ℕ) (b : ℕ) (front back : List ℕ) : Type 0 where

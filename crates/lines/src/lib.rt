@@ -1,14 +1,17 @@
 // The lines of a collection file: their permitted forms, and a reader that takes an input apart into lines.
-//
-// A line is a keyword, `=`, and one number or two with a comma between them, followed by a line feed: `library=7`,
-// `arc=3,12`. A number is decimal, from 0 to 65,535, with no leading zero, sign or blank.
 ghost use mathlib.Core.Path.{_≡_};
-ghost use Prim.Native.Nat.{ℕ};
+ghost use mathlib.Core.Logic.{_↔_};
+ghost use Prim.Native.Nat.{ℕ, _<_};
+ghost use lib.Dec.{T};
+ghost use lib.ListN.{getD, length};
 ghost use Rattle.std.specs.Options.{Cases};
-ghost use Rattle.lines.specs.Forms.{ParsesTo};
-ghost use Rattle.lines.specs.Parts.{keyword, Lacks, SplitsAt, WritesNumber, WritesPair};
+ghost use Rattle.lines.specs.Forms.{ParsesTo, Writes, WritesNone};
+ghost use Rattle.lines.specs.Parts.{FirstPlace, form, keyword, Lacks, SplitsAt, WritesNumber, WritesPair};
 ghost use Rattle.lines.specs.Reading.{unread, Steps};
 
+// A line, whose permitted form is a keyword, `=`, and one number or two with a comma between them: `library=L`,
+// `papers=N`, `arc=U,V`, `end=M`, `ask=S,T`, `trace=S,T` and `under=S`. The numbers are decimal, from 0 to 65,535, with
+// no leading zero, sign or blank.
 #[derive(Clone, Copy, Debug, PartialEq, Eq)]
 pub enum Line {
     Library(u16),
@@ -25,28 +28,11 @@ pub fn parse_line(bytes: &[u8]) -> Option<Line>
     ensures { λ r. ⌜ ParsesTo (now (bytes .entry)) r ⌝ }
 {
     let (word, value) = split_at_first(bytes, b'=')?;
-    let line = match kind_of(word)? {
-        Kind::Library => Line::Library(parse_number(value)?),
-        Kind::Papers => Line::Papers(parse_number(value)?),
-        Kind::Arc => {
-            let (u, v) = parse_pair(value)?;
-            Line::Arc(u, v)
-        }
-        Kind::End => Line::End(parse_number(value)?),
-        Kind::Ask => {
-            let (s, t) = parse_pair(value)?;
-            Line::Ask(s, t)
-        }
-        Kind::Trace => {
-            let (s, t) = parse_pair(value)?;
-            Line::Trace(s, t)
-        }
-        Kind::Under => Line::Under(parse_number(value)?),
-    };
-    Some(line)
+    let kind = kind_of(word)?;
+    parse_value(kind, value)
 }
 
-// What the keyword of a line tells.
+// The kinds of lines, one for each keyword.
 #[derive(Clone, Copy)]
 enum Kind {
     Library,
@@ -81,6 +67,31 @@ fn kind_of(word: &[u8]) -> Option<Kind>
     }
 }
 
+// The line of this kind that has `value` after the sign `=`.
+fn parse_value(kind: Kind, value: &[u8]) -> Option<Line>
+    ensures { λ r. ⌜ Cases r (WritesNone (form kind (now (value .entry)))) (Writes (form kind (now (value .entry)))) ⌝ }
+{
+    let line = match kind {
+        Kind::Library => Line::Library(parse_number(value)?),
+        Kind::Papers => Line::Papers(parse_number(value)?),
+        Kind::Arc => {
+            let (u, v) = parse_pair(value)?;
+            Line::Arc(u, v)
+        }
+        Kind::End => Line::End(parse_number(value)?),
+        Kind::Ask => {
+            let (s, t) = parse_pair(value)?;
+            Line::Ask(s, t)
+        }
+        Kind::Trace => {
+            let (s, t) = parse_pair(value)?;
+            Line::Trace(s, t)
+        }
+        Kind::Under => Line::Under(parse_number(value)?),
+    };
+    Some(line)
+}
+
 // The two numbers of `m,n`.
 fn parse_pair(bytes: &[u8]) -> Option<(u16, u16)>
     ensures { λ r. ⌜ Cases r ((m n : ℕ) → WritesPair (now (bytes .entry)) m n → ⊥) (λ p. WritesPair (now (bytes .entry)) (p .0) (p .1)) ⌝ }
@@ -93,12 +104,12 @@ fn parse_pair(bytes: &[u8]) -> Option<(u16, u16)>
 
 // The number that `bytes` are in decimal, without leading zeros.
 fn parse_number(bytes: &[u8]) -> Option<u16>
-    ensures { λ r. ⌜ Cases r ((n : ℕ) → WritesNumber (now (bytes .entry)) n → ⊥) (λ n. WritesNumber (now (bytes .entry)) n) ⌝ }
+    ensures { λ r. ⌜ Cases r ((n : ℕ) → WritesNumber (now (bytes .entry)) n → ⊥) (WritesNumber (now (bytes .entry))) ⌝ }
 {
     if bytes.is_empty() || bytes.len() > 5 {
         return None;
     }
-    if bytes[0] == b'0' && bytes.len() > 1 {
+    if has_leading_zero(bytes) {
         return None;
     }
     let mut n: u32 = 0;
@@ -108,19 +119,31 @@ fn parse_number(bytes: &[u8]) -> Option<u16>
         }
         n = n * 10 + u32::from(*digit - b'0');
     }
-    if n > 65535 {
-        return None;
-    }
-    Some(n as u16)
+    u16::try_from(n).ok()
+}
+
+// Whether `bytes` begin with a zero and go on after it.
+fn has_leading_zero(bytes: &[u8]) -> bool
+    ensures { λ r. ⌜ T r ↔ ((1 < length (now (bytes .entry))) × (getD (now (bytes .entry)) 0 0 ≡ 48)) ⌝ }
+{
+    bytes.len() > 1 && bytes[0] == b'0'
 }
 
 // What stands before and after the first `separator` in `bytes`.
 fn split_at_first(bytes: &[u8], separator: u8) -> Option<(&[u8], &[u8])>
     ensures { λ r. ⌜ Cases r (Lacks (now (bytes .entry)) separator) (λ p. SplitsAt (now (bytes .entry)) separator (p .0 .now) (p .1 .now)) ⌝ }
 {
-    for (i, byte) in bytes.iter().enumerate() {
-        if *byte == separator {
-            return Some((&bytes[..i], &bytes[i + 1..]));
+    let i = first_place(bytes, separator)?;
+    Some((&bytes[..i], &bytes[i + 1..]))
+}
+
+// The first place of `byte` in `bytes`.
+fn first_place(bytes: &[u8], byte: u8) -> Option<usize>
+    ensures { λ r. ⌜ Cases r (Lacks (now (bytes .entry)) byte) (FirstPlace (now (bytes .entry)) byte) ⌝ }
+{
+    for (i, b) in bytes.iter().enumerate() {
+        if *b == byte {
+            return Some(i);
         }
     }
     None
