@@ -1,5 +1,5 @@
 // Tests of the crates below, in a crate of their own since they are many.
 #[cfg(test)]
-mod graphs;
-#[cfg(test)]
 mod files;
+#[cfg(test)]
+mod graphs;

@@ -25,9 +25,10 @@ grown : (o p : Output) (before text : List ℕ) → o .used ≡ 0 → whole o �
     (whole p ≡ text ++ drop (length text) before) × (p .used ≡ length text)
 grown o p before text z e g =
     let none : text-of o ≡ [] = ap (λ n. take n (whole o)) z in
-    let all : beyond o ≡ before = ap (λ n. drop n (whole o)) z ∙ e in
-    (sym (take-append-drop (p .used) (whole p)) ∙ ap (λ t. t ++ beyond p) (g .text ∙ ap (λ t. t ++ text) none) ∙ ap (λ t. text ++ t) (g .past ∙ ap (drop (length text)) all),
-     omega (arith, g .used))
+    let all : beyond o ≡ before = ap (λ n. drop n (whole o)) z ∙ e in (
+      sym (take-append-drop (p .used) (whole p)) ∙ ap (λ t. t ++ beyond p) (g .text ∙ ap (λ t. t ++ text) none) ∙ ap (λ t. text ++ t) (g .past ∙ ap (drop (length text)) all),
+      omega (arith, g .used),
+    )
 
 -- what `run` promises
 pub record Closed (input before after : List ℕ) (n : ℕ) (f : Option FileFault) : Type 0 where
@@ -65,6 +66,6 @@ module _ (input before after : List ℕ) (n : ℕ) (o₀ o : Output) (r : Result
       let text : line ≡ fault-line (fault-number (f .fault)) (f .line) = is ∙ ap (λ j. fault-line j (f .line)) num in
       subst (λ q. Closed input before after n (fault-of q)) ill
       (closes p
-        (subst (λ q. Grows o₀ (printed (all .0) q) p) (sym ill)
-          (subst (λ t. Grows o₀ (all .0 ++ t) p) text (grows-then o₀ (all .0) o (all .2 .grows) line p grows)))
-        m a (omega (arith, all .2 .size)))
+      (subst (λ q. Grows o₀ (printed (all .0) q) p) (sym ill)
+      (subst (λ t. Grows o₀ (all .0 ++ t) p) text (grows-then o₀ (all .0) o (all .2 .grows) line p grows)))
+      m a (omega (arith, all .2 .size)))

@@ -2,7 +2,6 @@
 ghost use Prim.Native.Nat.{_≤_};
 ghost use lib.ListN.{length};
 ghost use Rattle.std.specs.Vec.{made};
-
 use std::error::AnyError;
 use std::io;
 use std::io::Read;
@@ -30,7 +29,8 @@ fn main(rt: LibcRuntime) -> Result<(), AnyError> {
     let len = fill(&mut rt.stdin(), &mut input)?;
     let mut output = [0u8; 65536];
     let finished = collection::run(&input[0..len], &mut output);
-    rt.stdout().write_all(&output[0..finished.written])?;
+    let written = finished.written;
+    rt.stdout().write_all(&output[0..written])?;
     if finished.fault.is_some() {
         return Err("the collection has a fault".into());
     }

@@ -16,7 +16,7 @@ use Rattle.graph.specs.Model.{Model, Proper}
 use Rattle.graph.specs.Paths.{Reaches}
 use Rattle.search.specs.Refusals.{refusal}
 use Rattle.search.specs.Under.{has, Ascending, UnderWritten}
-use Rattle.graph.proofs.Paths.{path-below}
+use Rattle.graph.proofs.Paths.{path-inside}
 use Rattle.search.proofs.Lists.{has-push, ascending-push}
 
 pub rest-more : (out before : List ℕ) (count u : ℕ) → drop count out ≡ drop count before → drop (count + 1) (set out count u) ≡ drop (count + 1) before
@@ -71,7 +71,7 @@ module _ (m : Model) (s : ℕ) (before : List ℕ) where
     lists = record {
       ascending = h .ascending;
       only = all-weaker _ (λ x. Reaches m s x) (λ x i. i .1) (take count out) (h .only);
-      all = λ x r. ∥∥₁-elim r (Bool-set _ _) (λ p. h .all x (path-below m k p b) r);
+      all = λ x r. ∥∥₁-elim r (Bool-set _ _) (λ p. h .all x (path-inside m k p b) r);
     };
     few = h .few;
     below = all-weaker _ (λ x. x < m .order) (λ x i. i .0) (take count out) (h .only);

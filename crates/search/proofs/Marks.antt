@@ -13,7 +13,7 @@ use Rattle.std.specs.declared.option.Option.the-variants.{Some, None}
 use Rattle.graph.specs.Model.{Model, Proper, NextSuccessor}
 use Rattle.graph.specs.Paths.{Path, stay, walk}
 use Rattle.search.specs.Under.{Marked}
-use Rattle.graph.proofs.Paths.{path-joins}
+use Rattle.graph.proofs.Paths.{join-paths}
 
 -- how many of the first n marks are set
 abbrev pub ones : ℕ → List Bool → ℕ
@@ -158,7 +158,7 @@ module _ (m : Model) (s : ℕ) where
         let lm : w < length marks = omega (arith, h .marks-size, h .proper .small) in
         let lw : height < length waiting = omega (arith, h .stack-size, h .proper .small, roomier w h b e) in
         let here : getD (set marks w true) w false ≡ true = getD-set-same marks w true false lm in
-        let there = path-joins r (walk (n .2) stay) in
+        let there = join-paths r (walk (n .2) stay) in
         let top = getD-set-same waiting height w 0 lw in
         let grows : (x : ℕ) → getD marks x false ≡ true → getD (set marks w true) x false ≡ true =
         λ x ex. ⊎-elim (λ (q : x ≡ w). ap (λ y. getD (set marks w true) y false) q ∙ here)
