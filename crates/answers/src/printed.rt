@@ -9,14 +9,14 @@ ghost use Rattle.answers.specs.Printed.{header-line, under-line, fault-line};
 use crate::buffer::LineBuffer;
 
 // What was read: the library's number, its vertices and its arcs.
-pub fn header(library: u16, papers: u16, arcs: u16) -> LineBuffer
-    ensures { λ r. ⌜ held r ≡ header-line library papers arcs ⌝ }
+pub fn header(library: u16, vertices: u16, arcs: u16) -> LineBuffer
+    ensures { λ r. ⌜ held r ≡ header-line library vertices arcs ⌝ }
 {
     let mut line = LineBuffer::new();
     line.text(b"library=");
     line.number(library as usize);
     line.text(b" papers=");
-    line.number(papers as usize);
+    line.number(vertices as usize);
     line.text(b" arcs=");
     line.number(arcs as usize);
     line.text(b"\n");

@@ -1,5 +1,5 @@
 -- How a run ends: what is printed stands at the front of the output. Assumes nothing.
-use mathlib.Core.Path.{_≡_, refl, sym, ap, subst, _∙_}
+use mathlib.Core.Path.{_≡_, sym, ap, subst, _∙_}
 use mathlib.Core.List.{List, [], _++_}
 use Prim.Native.Nat.{ℕ, _+_, _<_, _≤_, _^_}
 use native.Mathlib.Omega.{arith}
@@ -16,7 +16,7 @@ use Rattle.answers.specs.Printed.{fault-line}
 use Rattle.answers.proofs.Room.{fault-short}
 use Rattle.collection.specs.declared.faults.FileFault.{FileFault}
 use Rattle.collection.specs.Faults.{fault-number}
-use Rattle.collection.specs.Runs.{Outcome, printed, fault-of, Done}
+use Rattle.collection.specs.Runs.{printed, fault-of, Done}
 use Rattle.collection.specs.Parts.{InputDone}
 use Rattle.collection.proofs.Lines.{grows-then}
 

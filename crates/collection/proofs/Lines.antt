@@ -11,7 +11,6 @@ use Rattle.std.specs.declared.result.Result.{Result}
 use Rattle.std.specs.declared.result.Result.the-variants.{Ok, Err}
 use Rattle.graph.specs.Model.{Model}
 use Rattle.lines.specs.declared.Line.{Line}
-use Rattle.lines.specs.declared.Line.the-variants.{Library, Papers, Arc, End, Ask, Trace, Under}
 use Rattle.lines.specs.declared.NoForm.{NoForm}
 use Rattle.lines.specs.Forms.{written}
 use Rattle.lines.specs.Reading.{BeginsWith, Steps}
@@ -22,8 +21,7 @@ use Rattle.collection.specs.declared.faults.Fault.the-variants.{Form, Order}
 use Rattle.collection.specs.declared.machine.Place.the-variants.{AmongQuestions}
 use Rattle.collection.specs.declared.faults.FileFault.{FileFault}
 use Rattle.collection.specs.declared.machine.Machine.{Machine}
-use Rattle.collection.specs.declared.machine.Place.{Place}
-use Rattle.collection.specs.Moves.{start, home, after, Moves, Does}
+use Rattle.collection.specs.Moves.{start}
 use Rattle.collection.specs.Runs.{Taken, Stopped, Reads, whole, early, no-form, stopped, taken}
 use Rattle.collection.specs.Parts.{LineDone, Printed, AllDone}
 

@@ -1,15 +1,17 @@
 -- What a scan of a table of arcs keeps. Assumes nothing.
-use mathlib.Core.Path.{_≡_, refl, sym, ap, _∙_}
-use mathlib.Core.Bool.{Bool, true, false, _&&_, _||_, or-false, or-assoc, and-comm}
+use mathlib.Core.Path.{_≡_, refl, sym, ap, subst, _∙_}
+use mathlib.Core.Bool.{Bool, true, false, cond, not, _&&_, _||_, or-false, or-assoc, and-comm}
 use mathlib.Core.List.{List, [], _∷_, _++_}
 use mathlib.Core.Logic.{_⊎_, ⊎-elim}
 use Prim.Native.Nat.{ℕ, zero, suc, _+_, _<_, _≤_}
 use native.Mathlib.Omega.{arith}
-use lib.Dec.{eqb}
+use lib.Dec.{eqb, leb, ltb}
+use Rattle.std.specs.declared.option.Option.{Option}
+use Rattle.std.specs.declared.option.Option.the-variants.{Some, None}
 use lib.ListN.{length, take, getD}
 use Rattle.std.proofs.shelf.Lists.{take-more}
-use Rattle.std.proofs.shelf.Tests.{or-cases, or-left, or-right, and-parts, and-from, eqb-true, eq-eqb, both-ways, cases-bool}
-use Rattle.graph.specs.Table.{is-arc, has, drawn}
+use Rattle.std.proofs.shelf.Tests.{or-cases, or-left, or-right, and-parts, and-from, and-cases, eqb-true, eqb-false, eq-eqb, ne-eqb, leb-true, le-leb, ltb-true, ltb-false, not-true, not-from-false, both-ways, cases-bool}
+use Rattle.graph.specs.Table.{is-arc, has, drawn, head-from, tail-to, nearer-to}
 use Rattle.graph.specs.Facts.{drawn-parts, drawn-from}
 use Rattle.graph.specs.declared.list.Arc.{Arc}
 
@@ -69,36 +71,45 @@ module _ (p q : ℕ → Bool) (t : Bool) (y from u n best : ℕ) (adds : (w : �
         (or-cases (p w) (t && eqb y w) (sym (adds w) ∙ z));
   }
 
+-- the best so far after an entry that gives the vertex o, or none
+abbrev pub after-entry : ℕ → Option ℕ → ℕ → ℕ
+after-entry from None best = best
+after-entry from (Some v) best = nearer-to from v best
+
+-- the new entry counts if t, and gives then the vertex y
+module _ (p q : ℕ → Bool) (t : Bool) (y from u n best : ℕ) (adds : (w : ℕ) → q w ≡ (p w || (t && eqb y w))) (l : Least p from u n best) where
+  least-step : (o : Option ℕ) → o ≡ cond (t && not (eqb y u)) (Some y) None → Least q from u n (after-entry from o best)
+  least-step o e = subst (λ x. Least q from u n (after-entry from x best)) (sym e) (by-count (t && not (eqb y u)) refl)
+    where
+      by-near : (b : Bool) → (leb from y && ltb y best) ≡ b → t ≡ true → (y ≡ u → ⊥) → Least q from u n (cond b y best)
+      by-near true k counts ne =
+          let r = and-parts (leb from y) (ltb y best) k in least-takes p q t y from u n best adds l counts ne (leb-true from y (r .0)) (ltb-true y best (r .1))
+      by-near false k counts ne =
+          least-keeps p q t y from u n best adds l (λ _ _ le. ⊎-elim (λ h. absurd (both-ways (leb from y) h (le-leb from y le))) (λ h. ltb-false y best h) (and-cases (leb from y) (ltb y best) k))
+
+      by-count : (b : Bool) → (t && not (eqb y u)) ≡ b → Least q from u n (after-entry from (cond b (Some y) None) best)
+      by-count true k =
+          let r = and-parts t (not (eqb y u)) k in by-near (leb from y && ltb y best) refl (r .0) (eqb-false y u (not-true (eqb y u) (r .1)))
+      by-count false k =
+          least-keeps p q t y from u n best adds l
+          (λ counts ne _. absurd (⊎-elim (λ h. both-ways t h counts) (λ h. both-ways (not (eqb y u)) h (not-from-false (eqb y u) (ne-eqb y u ne))) (and-cases t (not (eqb y u)) k)))
+
 -- one step of a scan for the heads of u's arcs, and for the tails
 module _ (T : List Arc) (i : ℕ) (d : Arc) (from u n best : ℕ) (lt : i < length T) where
-  pub head-takes : Least (λ w. has (take i T) u w) from u n best → getD T i d .tail ≡ u → (getD T i d .head ≡ u → ⊥) →
-      from ≤ getD T i d .head → getD T i d .head < best → Least (λ w. has (take (i + 1) T) u w) from u n (getD T i d .head)
-  head-takes l e ne =
-      least-takes (λ w. has (take i T) u w) (λ w. has (take (i + 1) T) u w) (eqb (getD T i d .tail) u) (getD T i d .head) from u n best
-      (λ w. has-more T i d u w lt) l (eq-eqb _ _ e) ne
+  pub head-step : Least (λ w. has (take i T) u w) from u n best → (o : Option ℕ) → o ≡ head-from u (getD T i d) → (b : ℕ) → b ≡ after-entry from o best →
+      Least (λ w. has (take (i + 1) T) u w) from u n b
+  head-step l o e b is =
+      subst (Least (λ w. has (take (i + 1) T) u w) from u n) (sym is)
+      (least-step (λ w. has (take i T) u w) (λ w. has (take (i + 1) T) u w) (eqb (getD T i d .tail) u) (getD T i d .head) from u n best (λ w. has-more T i d u w lt) l o e)
 
-  pub head-keeps : Least (λ w. has (take i T) u w) from u n best →
-      (getD T i d .tail ≡ u → (getD T i d .head ≡ u → ⊥) → from ≤ getD T i d .head → best ≤ getD T i d .head) →
-      Least (λ w. has (take (i + 1) T) u w) from u n best
-  head-keeps l far =
-      least-keeps (λ w. has (take i T) u w) (λ w. has (take (i + 1) T) u w) (eqb (getD T i d .tail) u) (getD T i d .head) from u n best
-      (λ w. has-more T i d u w lt) l (λ e. far (eqb-true _ _ e))
-
-  more-tail : (w : ℕ) → has (take (i + 1) T) w u ≡ (has (take i T) w u || (eqb (getD T i d .head) u && eqb (getD T i d .tail) w))
-  more-tail w = has-more T i d w u lt ∙ ap (λ b. has (take i T) w u || b) (and-comm (eqb (getD T i d .tail) w) (eqb (getD T i d .head) u))
-
-  pub tail-takes : Least (λ w. has (take i T) w u) from u n best → getD T i d .head ≡ u → (getD T i d .tail ≡ u → ⊥) →
-      from ≤ getD T i d .tail → getD T i d .tail < best → Least (λ w. has (take (i + 1) T) w u) from u n (getD T i d .tail)
-  tail-takes l e ne =
-      least-takes (λ w. has (take i T) w u) (λ w. has (take (i + 1) T) w u) (eqb (getD T i d .head) u) (getD T i d .tail) from u n best
-      more-tail l (eq-eqb _ _ e) ne
-
-  pub tail-keeps : Least (λ w. has (take i T) w u) from u n best →
-      (getD T i d .head ≡ u → (getD T i d .tail ≡ u → ⊥) → from ≤ getD T i d .tail → best ≤ getD T i d .tail) →
-      Least (λ w. has (take (i + 1) T) w u) from u n best
-  tail-keeps l far =
-      least-keeps (λ w. has (take i T) w u) (λ w. has (take (i + 1) T) w u) (eqb (getD T i d .head) u) (getD T i d .tail) from u n best
-      more-tail l (λ e. far (eqb-true _ _ e))
+  pub tail-step : Least (λ w. has (take i T) w u) from u n best → (o : Option ℕ) → o ≡ tail-to u (getD T i d) → (b : ℕ) → b ≡ after-entry from o best →
+      Least (λ w. has (take (i + 1) T) w u) from u n b
+  tail-step l o e b is =
+      subst (Least (λ w. has (take (i + 1) T) w u) from u n) (sym is)
+      (least-step (λ w. has (take i T) w u) (λ w. has (take (i + 1) T) w u) (eqb (getD T i d .head) u) (getD T i d .tail) from u n best more-tail l o e)
+    where
+      more-tail : (w : ℕ) → has (take (i + 1) T) w u ≡ (has (take i T) w u || (eqb (getD T i d .head) u && eqb (getD T i d .tail) w))
+      more-tail w = has-more T i d w u lt ∙ ap (λ b. has (take i T) w u || b) (and-comm (eqb (getD T i d .tail) w) (eqb (getD T i d .head) u))
 
 -- a test that can only fail is false
 pub never : (b : Bool) → (b ≡ true → ⊥) → b ≡ false

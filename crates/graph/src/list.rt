@@ -1,12 +1,12 @@
 // A graph as a table of arcs that the caller lends. No invariant is kept: the fields mean a graph whatever they hold.
 ghost use mathlib.Core.Path.{_≡_};
 ghost use Prim.Native.Nat.{_+_, _<_, _≤_, min};
-ghost use lib.ListN.{length};
-ghost use lib.Dec.{lit≤};
+ghost use lib.ListN.{length, set};
+ghost use lib.Dec.{lit≤, leb};
 ghost use Rattle.graph.specs.Model.{Empty};
 ghost use Rattle.graph.specs.Facts.{list-proper, list-bounded};
 ghost use Rattle.graph.specs.ListModel.{list-model, list-arc-limit, places, taken as places-taken, list-order, entries};
-ghost use Rattle.graph.specs.Table.{has};
+ghost use Rattle.graph.specs.Table.{has, head-from, tail-to, nearer-to};
 use crate::Digraph;
 use crate::GrowableDigraph;
 use crate::Refusal;
@@ -15,6 +15,37 @@ use crate::Refusal;
 pub struct Arc {
     pub tail: u16,
     pub head: u16,
+}
+
+impl Arc {
+    // The head of an arc from u to another vertex.
+    fn head_from(self, u: u16) -> Option<u16>
+        ensures { λ r. ⌜ r ≡ head-from u self ⌝ }
+    {
+        if self.tail == u && self.head != u {
+            Some(self.head)
+        } else {
+            None
+        }
+    }
+
+    // The tail of an arc from another vertex to v.
+    fn tail_to(self, v: u16) -> Option<u16>
+        ensures { λ r. ⌜ r ≡ tail-to v self ⌝ }
+    {
+        if self.head == v && self.tail != v {
+            Some(self.tail)
+        } else {
+            None
+        }
+    }
+}
+
+// The vertex v, if it is not below `from` and lower than the best so far; otherwise that.
+fn nearer(v: u16, from: u16, best: u16) -> u16
+    ensures { λ r. ⌜ r ≡ nearer-to from v best ⌝ }
+{
+    if from <= v && v < best { v } else { best }
 }
 
 #[derive(Drop)]
@@ -59,6 +90,24 @@ impl<'a> ArcList<'a> {
         ensures { λ r. ⌜ r ≡ places-taken (now (self .entry)) ⌝ }
     {
         self.used.min(self.places())
+    }
+
+    fn is_full(&self) -> bool
+        ensures { λ r. ⌜ r ≡ leb (places (now (self .entry))) (places-taken (now (self .entry))) ⌝ }
+    {
+        self.taken() >= self.places()
+    }
+
+    // Puts the arc into the first place that is free.
+    fn push(&mut self, arc: Arc)
+        requires { ⌜ places-taken (now self) < places (now self) ⌝ }
+        ensures table { λ _. ⌜ now (self .exit) .table .now ≡ set (now (self .entry) .table .now) (places-taken (now (self .entry))) arc ⌝ }
+        ensures used { λ _. ⌜ now (self .exit) .used ≡ places-taken (now (self .entry)) + 1 ⌝ }
+        ensures count { λ _. ⌜ now (self .exit) .count ≡ now (self .entry) .count ⌝ }
+    {
+        let taken = self.taken();
+        self.table[taken as usize] = arc;
+        self.used = taken + 1;
     }
 
     fn order(&self) -> u16
@@ -114,8 +163,8 @@ pub impl<'a> Digraph for ArcList<'a> as ArcListDigraph {
         let mut best = n;
         for i in 0..taken {
             let arc = self.table[i as usize];
-            if arc.tail == u && arc.head != u && from <= arc.head && arc.head < best {
-                best = arc.head;
+            if let Some(v) = arc.head_from(u) {
+                best = nearer(v, from, best);
             }
         }
         if best < n { Some(best) } else { None }
@@ -130,8 +179,8 @@ pub impl<'a> Digraph for ArcList<'a> as ArcListDigraph {
         let mut best = n;
         for i in 0..taken {
             let arc = self.table[i as usize];
-            if arc.head == v && arc.tail != v && from <= arc.tail && arc.tail < best {
-                best = arc.tail;
+            if let Some(u) = arc.tail_to(v) {
+                best = nearer(u, from, best);
             }
         }
         if best < n { Some(best) } else { None }
@@ -170,12 +219,10 @@ pub impl<'a> GrowableDigraph for ArcList<'a> as ArcListGrowableDigraph {
         if self.has_entry(u, v) {
             return Err(Refusal::ArcPresent);
         }
-        let taken = self.taken();
-        if taken >= self.places() {
+        if self.is_full() {
             return Err(Refusal::LimitReached);
         }
-        self.table[taken as usize] = Arc { tail: u, head: v };
-        self.used = taken + 1;
+        self.push(Arc { tail: u, head: v });
         Ok(())
     }
 }

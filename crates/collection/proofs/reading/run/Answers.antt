@@ -1,6 +1,6 @@
 use mathlib.Core.Path.{_∙_}
 use borrow.Author.Needs.{needs}
-use Rattle.collection.proofs.Closing.{Closed, closed-well, closed-ill}
+use Rattle.collection.proofs.Closing.{closed-well, closed-ill}
 use Rattle.collection.proofs.reading.run.Needs as need
 
 pub returns-in-rest : need.returns-in-rest

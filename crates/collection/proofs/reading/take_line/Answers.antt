@@ -1,7 +1,6 @@
 use native.Mathlib.Omega.{arith}
-use mathlib.Core.Path.{refl, sym, subst, ap, _∙_}
+use mathlib.Core.Path.{refl, sym, subst}
 use Rattle.std.proofs.shelf.Results.{err-from-errBy}
-use Rattle.answers.specs.Appending.{whole}
 use Rattle.collection.specs.Moves.{Answers}
 use Rattle.collection.specs.Runs.{refused, unanswered, no-room}
 use Rattle.collection.proofs.Lines.{stops}

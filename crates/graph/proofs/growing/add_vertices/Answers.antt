@@ -22,7 +22,8 @@ one-more g h i k p q = record { order = omega (arith, p .order, q .order); arcs 
 pub loop-again : need.loop-again
 loop-again g c =
     let e = c .in-Continue-add-vertex .ensures tt in
-    (one-more _ _ _ (c .loop .counter) (c .loop .inv .0) (e .grows .2), e .limit ∙ c .loop .inv .1)
+    let model = g .G·Digraph .model in
+    (one-more (model (c .args .graph .now)) (model (c .loop .graph)) (model (c .add-vertex .last .self)) (c .loop .counter) (c .loop .inv .0) (e .grows .2), e .limit ∙ c .loop .inv .1)
 
 pub returns : need.returns
 returns g c =

@@ -1,12 +1,10 @@
 use native.Mathlib.Omega.{arith}
-use mathlib.Core.Path.{sym, subst}
-use Rattle.graph.specs.Table.{has}
+use mathlib.Core.Path.{_∙_}
 use Rattle.graph.specs.ListModel.{taken, entries, list-order}
-use lib.ListN.{take}
-use Prim.Native.Nat.{_+_}
-use Rattle.graph.proofs.Tables.{Least, least-start, tail-takes, tail-keeps, has-none, no-tail, one-tail, beyond-tail}
+use Rattle.graph.proofs.Tables.{least-start, tail-step, has-none, no-tail, one-tail, beyond-tail}
+use Rattle.std.specs.declared.option.Option.the-variants.{Some, None}
 use Rattle.graph.proofs.list.ArcListDigraph.next_predecessor.Needs as need
-use Rattle.graph.proofs.list.ArcListDigraph.next_predecessor.Needs.{then-arc-v·then-arc-v-2·then-from-arc·then-arc-best, else-arc-v}
+use Rattle.graph.proofs.list.ArcListDigraph.next_predecessor.Needs.{in-Some, in-rest}
 
 pub returns-then-v-n : need.returns-then-v-n
 returns-then-v-n c = λ k _. beyond-tail (entries (c .args .self .now)) (list-order (c .args .self .now)) (c .args .v) k (omega arith)
@@ -16,11 +14,13 @@ loop-i-holds c = least-start _ _ _ _ (λ w. has-none w _)
 
 pub loop-i-again : need.loop-i-again
 loop-i-again c =
-    elim (c .if-arc-v .came) [
-      | then-arc-v·then-arc-v-2·then-from-arc·then-arc-best w ↦ subst (λ b. Least (λ x. has (take (c .loop-i .i + 1) (c .args .self .now .table .now)) x (c .args .v)) (c .args .from) (c .args .v) (c .order-n .result) b) (sym (w .best-is))
-          (tail-takes (c .args .self .now .table .now) (c .loop-i .i) _ _ _ _ (c .loop-i .best) (omega arith) (c .loop-i .inv) (omega arith) (omega arith) (omega arith) (omega arith))
-      | else-arc-v w ↦ subst (λ b. Least (λ x. has (take (c .loop-i .i + 1) (c .args .self .now .table .now)) x (c .args .v)) (c .args .from) (c .args .v) (c .order-n .result) b) (sym (w .best-is))
-          (tail-keeps (c .args .self .now .table .now) (c .loop-i .i) record { tail = 0; head = 0 } _ _ _ (c .loop-i .best) (omega arith) (c .loop-i .inv) (λ e ne le. omega (arith, w .else-arc-v .either)))
+    let T = c .args .self .now .table .now in
+    let i = c .loop-i .i in
+    let from = c .args .from in
+    let best = c .loop-i .best in
+    elim (c .match-tail-to .came) [
+      | in-Some w ↦ tail-step T i _ from _ _ best (omega arith) (c .loop-i .inv) (Some (w .in-Some .u)) (w .in-Some .ensures tt) _ (w .best-is ∙ w .nearer-best .ensures)
+      | in-rest w ↦ tail-step T i record { tail = 0; head = 0 } from _ _ best (omega arith) (c .loop-i .inv) None (w .in-rest .ensures tt) _ (w .best-is)
     ]
 
 pub returns-then-best-n : need.returns-then-best-n
