@@ -11,7 +11,13 @@ use Rattle.std.proofs.shelf.Lists.{append-nil, append-assoc, take-all, take-mor
 use Rattle.answers.specs.declared.buffer.LineBuffer.{LineBuffer}
 use Rattle.answers.specs.Texts.{kept, commas, Gains}
 use Rattle.answers.specs.Held.{held}
-use Rattle.answers.specs.Printed.{header-line, under-line, fault-line}
+use Rattle.answers.specs.Printed.{header-line, verdict-word, ask-line, path-text, trace-line, under-line, fault-line}
+use Rattle.lines.specs.Forms.{decimal-pair}
+use Rattle.labels.specs.declared.decision.Verdict.{Verdict}
+use Rattle.labels.specs.declared.decision.Verdict.the-variants.{Yes, No}
+use mathlib.Core.Bool.{true, false}
+use lib.Dec.{eqb}
+use Rattle.std.proofs.shelf.Tests.{eqb-true, eqb-false}
 use lib.Chars.{codes}
 
 -- over any room, so that antt does not count it out
@@ -87,6 +93,23 @@ commas-short (x ∷ []) a = omega (arith, length-decimal-le 3 x (omega arith) (o
 commas-short (x ∷ y ∷ ys) a =
     omega (arith, length-append (decimal x) (44 ∷ commas (y ∷ ys)), length-decimal-le 3 x (omega arith) (omega (arith, a .0)) (omega (arith, a .0)), commas-short (y ∷ ys) (a .1))
 
+-- what is printed of a path
+pub path-none : (p : List ℕ) → eqb (length p) 0 ≡ true → codes "none" ≡ path-text p
+path-none [] e = refl
+path-none (x ∷ p) e = absurd (omega (arith, eqb-true (length (x ∷ p)) 0 e))
+
+pub path-some : (p : List ℕ) → eqb (length p) 0 ≡ false → commas p ≡ path-text p
+path-some [] e = absurd (eqb-false (length {A = ℕ} []) 0 e refl)
+path-some (x ∷ p) e = refl
+
+path-short : (p : List ℕ) → All (λ x. x < 1000) p → length (path-text p) ≤ 4 * length p + 4
+path-short [] a = omega arith
+path-short (x ∷ p) a = omega (arith, commas-short (x ∷ p) a)
+
+word-short : (v : Verdict) → length (verdict-word v) ≤ 3
+word-short Yes = omega arith
+word-short No = omega arith
+
 -- each printed line is short enough to be kept whole
 pub header-short : (l n m : ℕ) → l < 2 ^ 16 → n < 2 ^ 16 → m < 2 ^ 16 → length (header-line l n m) ≤ 64
 header-short l n m p q r =
@@ -121,3 +144,18 @@ under-short s list p q a =
       length-decimal-le 3 (length list) (omega arith) (omega arith) (omega arith),
       commas-short list a,
     )
+
+pub ask-short : (s t : ℕ) (v : Verdict) (k o : ℕ) → s < 2 ^ 16 → t < 2 ^ 16 → k < 2 ^ 16 → o < 2 ^ 16 → length (ask-line s t v k o) ≤ 128
+ask-short s t v k o p q r u =
+    omega (arith, length-append (decimal-pair s t) (codes " answer=" ++ (verdict-word v ++ (codes " ground=" ++ (decimal k ++ (codes " opened=" ++ (decimal o ++ codes "\n")))))),
+      length-append (decimal s) (44 ∷ decimal t), length-append (verdict-word v) (codes " ground=" ++ (decimal k ++ (codes " opened=" ++ (decimal o ++ codes "\n")))),
+      length-append (decimal k) (codes " opened=" ++ (decimal o ++ codes "\n")), length-append (decimal o) (codes "\n"), word-short v,
+      length-decimal-le 5 s (omega arith) (omega arith) (omega arith), length-decimal-le 5 t (omega arith) (omega arith) (omega arith),
+      length-decimal-le 5 k (omega arith) (omega arith) (omega arith), length-decimal-le 5 o (omega arith) (omega arith) (omega arith))
+
+pub trace-short : (s t : ℕ) (path : List ℕ) → s < 2 ^ 16 → t < 2 ^ 16 → length path ≤ 512 → All (λ x. x < 1000) path → length (trace-line s t path) ≤ 2560
+trace-short s t path p q few a =
+    omega (arith, length-append (decimal-pair s t) (codes " length=" ++ (decimal (length path) ++ (codes " path=" ++ (path-text path ++ codes "\n")))),
+      length-append (decimal s) (44 ∷ decimal t), length-append (decimal (length path)) (codes " path=" ++ (path-text path ++ codes "\n")),
+      length-append (path-text path) (codes "\n"), path-short path a, length-decimal-le 3 (length path) (omega arith) (omega arith) (omega arith),
+      length-decimal-le 5 s (omega arith) (omega arith) (omega arith), length-decimal-le 5 t (omega arith) (omega arith) (omega arith))
