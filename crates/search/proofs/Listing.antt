@@ -1,5 +1,5 @@
 -- What holds as the list is written. Assumes nothing.
-use mathlib.Core.Path.{_≡_, refl, sym, ap, subst, _∙_}
+use mathlib.Core.Path.{_≡_, sym, ap, subst, _∙_}
 use mathlib.Core.List.{List}
 use mathlib.Core.Bool.{Bool-set, true}
 use mathlib.Core.Logic.{∥∥₁-elim, _⊎_, ⊎-elim}
@@ -36,9 +36,6 @@ pub record Gathers (m : Model) (s v : ℕ) (before out : List ℕ) (count : ℕ)
   pub rest : drop count out ≡ drop count before
 
 module _ (m : Model) (s : ℕ) (before : List ℕ) where
-  pub gathers-none : Gathers m s 0 before before 0
-  gathers-none = record { few = omega arith; ascending = tt; only = tt; all = λ x l r. absurd (omega arith); rest = refl }
-
   module _ (v : ℕ) (out : List ℕ) (count : ℕ) (h : Gathers m s v before out count) where
     pub keeps : v < length out → Reaches m s v → Gathers m s (v + 1) before (set out count v) (count + 1)
     keeps l r =

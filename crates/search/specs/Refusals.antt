@@ -15,3 +15,7 @@ refusal-number ShortSlice = 8
 -- the refusal of a question about the vertex s, over n vertices, with a slice of that length; None where it is answered
 abbrev pub refusal : ℕ → ℕ → ℕ → Option Refusal
 refusal n s length = cond (leb n s) (Some NoVertex) (cond (ltb length n) (Some ShortSlice) None)
+
+-- the refusal of a question about the vertices s and t: NoVertex where s is no vertex, else as of a question about t
+abbrev pub refusal-of-two : ℕ → ℕ → ℕ → ℕ → Option Refusal
+refusal-of-two n s t length = cond (leb n s) (Some NoVertex) (refusal n t length)

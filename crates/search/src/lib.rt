@@ -4,6 +4,17 @@ ghost use Rattle.search.specs.Refusals.{refusal-number};
 ghost use Rattle.search.specs.Under.{Marked, UnderAnswer, OneUnderAnswer};
 use graph::Digraph;
 
+#[cfg(test)]
+mod tests;
+mod tracing;
+
+pub use tracing::no_cycle_where_rising;
+pub use tracing::one_trace;
+pub use tracing::one_trace_answer;
+pub use tracing::short_trace;
+pub use tracing::trace;
+pub use tracing::trace_where_path;
+
 // Why a question is refused.
 #[derive(Clone, Copy, PartialEq, Eq, Debug)]
 pub enum Refusal {
