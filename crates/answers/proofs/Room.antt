@@ -147,15 +147,30 @@ under-short s list p q a =
 
 pub ask-short : (s t : ℕ) (v : Verdict) (k o : ℕ) → s < 2 ^ 16 → t < 2 ^ 16 → k < 2 ^ 16 → o < 2 ^ 16 → length (ask-line s t v k o) ≤ 128
 ask-short s t v k o p q r u =
-    omega (arith, length-append (decimal-pair s t) (codes " answer=" ++ (verdict-word v ++ (codes " ground=" ++ (decimal k ++ (codes " opened=" ++ (decimal o ++ codes "\n")))))),
-      length-append (decimal s) (44 ∷ decimal t), length-append (verdict-word v) (codes " ground=" ++ (decimal k ++ (codes " opened=" ++ (decimal o ++ codes "\n")))),
-      length-append (decimal k) (codes " opened=" ++ (decimal o ++ codes "\n")), length-append (decimal o) (codes "\n"), word-short v,
-      length-decimal-le 5 s (omega arith) (omega arith) (omega arith), length-decimal-le 5 t (omega arith) (omega arith) (omega arith),
-      length-decimal-le 5 k (omega arith) (omega arith) (omega arith), length-decimal-le 5 o (omega arith) (omega arith) (omega arith))
+    omega (
+      arith,
+      length-append (decimal-pair s t) (codes " answer=" ++ (verdict-word v ++ (codes " ground=" ++ (decimal k ++ (codes " opened=" ++ (decimal o ++ codes "\n")))))),
+      length-append (decimal s) (44 ∷ decimal t),
+      length-append (verdict-word v) (codes " ground=" ++ (decimal k ++ (codes " opened=" ++ (decimal o ++ codes "\n")))),
+      length-append (decimal k) (codes " opened=" ++ (decimal o ++ codes "\n")),
+      length-append (decimal o) (codes "\n"),
+      word-short v,
+      length-decimal-le 5 s (omega arith) (omega arith) (omega arith),
+      length-decimal-le 5 t (omega arith) (omega arith) (omega arith),
+      length-decimal-le 5 k (omega arith) (omega arith) (omega arith),
+      length-decimal-le 5 o (omega arith) (omega arith) (omega arith),
+    )
 
 pub trace-short : (s t : ℕ) (path : List ℕ) → s < 2 ^ 16 → t < 2 ^ 16 → length path ≤ 512 → All (λ x. x < 1000) path → length (trace-line s t path) ≤ 2560
 trace-short s t path p q few a =
-    omega (arith, length-append (decimal-pair s t) (codes " length=" ++ (decimal (length path) ++ (codes " path=" ++ (path-text path ++ codes "\n")))),
-      length-append (decimal s) (44 ∷ decimal t), length-append (decimal (length path)) (codes " path=" ++ (path-text path ++ codes "\n")),
-      length-append (path-text path) (codes "\n"), path-short path a, length-decimal-le 3 (length path) (omega arith) (omega arith) (omega arith),
-      length-decimal-le 5 s (omega arith) (omega arith) (omega arith), length-decimal-le 5 t (omega arith) (omega arith) (omega arith))
+    omega (
+      arith,
+      length-append (decimal-pair s t) (codes " length=" ++ (decimal (length path) ++ (codes " path=" ++ (path-text path ++ codes "\n")))),
+      length-append (decimal s) (44 ∷ decimal t),
+      length-append (decimal (length path)) (codes " path=" ++ (path-text path ++ codes "\n")),
+      length-append (path-text path) (codes "\n"),
+      path-short path a,
+      length-decimal-le 3 (length path) (omega arith) (omega arith) (omega arith),
+      length-decimal-le 5 s (omega arith) (omega arith) (omega arith),
+      length-decimal-le 5 t (omega arith) (omega arith) (omega arith),
+    )

@@ -1,15 +1,17 @@
--- The line that answers `under`. Assumes nothing.
+-- The lines that answer `trace` and `under`. Assumes nothing.
 use mathlib.Core.Path.{_≡_, sym, subst}
 use mathlib.Core.List.{List}
 use Prim.Native.Nat.{ℕ, _<_, _≤_}
 use native.Mathlib.Omega.{arith}
 use lib.ListN.{length, take}
-use Rattle.std.proofs.shelf.Lists.{length-take}
+use Rattle.std.proofs.shelf.Lists.{length-take, length-take-le}
 use Rattle.std.proofs.shelf.Elements.{all-weaker}
 use Rattle.std.specs.shelf.Lists.{All}
 use Rattle.graph.specs.Model.{Model, Proper}
 use Rattle.search.specs.Under.{UnderWritten, Under as Reached}
-use Rattle.answers.specs.Printed.{under-line}
+use Rattle.search.specs.Trace.{TraceWritten}
+use Rattle.answers.specs.Printed.{trace-line, under-line}
+use Rattle.collection.specs.Moves.{TraceOrNone}
 
 -- the first n entries that `under` wrote, of which k is another name, are printed whole
 pub under-text : (g : Model) → Proper g → (s : ℕ) (before list text : List ℕ) (n k : ℕ) → k ≡ n → UnderWritten g s before list n →
@@ -21,5 +23,20 @@ under-text g p s before list text n k e done prints =
     let within : All (λ x. x < 1000) (take n list) = all-weaker (λ x. x < g .order) (λ x. x < 1000) (λ x l. omega arith) (take n list) (done .below) in (
       take k list,
       subst (λ j. Reached g s (take j list)) (sym e) (done .lists),
+      prints (omega (arith, length-take k list)) (subst (λ j. All (λ x. x < 1000) (take j list)) (sym e) within),
+    )
+
+-- the same of the first n entries that `trace` wrote
+pub trace-text : (g : Model) → Proper g → (s t : ℕ) (before list text : List ℕ) (n k : ℕ) → k ≡ n → 512 ≤ length list → TraceWritten g s t before list n →
+    (length (take k list) ≤ 512 → All (λ x. x < 1000) (take k list) → text ≡ trace-line s t (take k list)) →
+    (path : List ℕ) × TraceOrNone g s t path × (text ≡ trace-line s t path)
+trace-text g p s t before list text n k e long done prints =
+    let small = p .small in
+    let few = done .few in
+    let len = length-take-le n list (omega arith) in
+    let within : All (λ x. x < 1000) (take n list) = all-weaker (λ x. x < g .order) (λ x. x < 1000) (λ x l. omega arith) (take n list) (done .below) in
+    let found : TraceOrNone g s t (take n list) = record { found = λ l. done .found (omega arith); none = λ z. done .none (omega arith) } in (
+      take k list,
+      subst (λ j. TraceOrNone g s t (take j list)) (sym e) found,
       prints (omega (arith, length-take k list)) (subst (λ j. All (λ x. x < 1000) (take j list)) (sym e) within),
     )

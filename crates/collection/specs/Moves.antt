@@ -11,7 +11,9 @@ use Rattle.search.specs.declared.Refusal.the-variants.{NoVertex}
 use Rattle.search.specs.Under.{Under as Reached}
 use Rattle.lines.specs.declared.Line.{Line}
 use Rattle.lines.specs.declared.Line.the-variants.{Library, Papers, Arc, End, Ask, Trace, Under}
-use Rattle.answers.specs.Printed.{header-line, under-line}
+use Rattle.answers.specs.Printed.{header-line, trace-line, under-line}
+use Rattle.search.specs.Trace.{Trace as Traced}
+use lib.ListN.{length}
 use Rattle.collection.specs.declared.faults.Fault.{Fault}
 use Rattle.collection.specs.declared.faults.Fault.the-variants.{Growth, Question, Order}
 use Rattle.collection.specs.declared.machine.Place.{Place}
@@ -63,7 +65,7 @@ Does most limit m g (Arc u v) r m′ g′ =
     × (m′ ≡ after q (record { place = AmongArcs; library = m .library; arcs = m .arcs + 1 }) m)
 Does most limit m g (End k) r m′ g′ = Counted m k r m′ × (g′ ≡ g)
 Does most limit m g (Ask s t) r m′ g′ = Asked g s t r × (m′ ≡ m) × (g′ ≡ g)
-Does most limit m g (Trace s t) r m′ g′ = Asked g s t r × (m′ ≡ m) × (g′ ≡ g)
+Does most limit m g (Trace s t) r m′ g′ = (r ≡ Ok tt) × (m′ ≡ m) × (g′ ≡ g)
 Does most limit m g (Under s) r m′ g′ = (r ≡ Ok tt) × (m′ ≡ m) × (g′ ≡ g)
 
 -- a line in its place does what it says, and elsewhere it is out of place and changes nothing
@@ -71,22 +73,39 @@ pub record Moves (most limit : ℕ) (m : Machine) (g : Model) (l : Line) (r : Re
   pub there : m .place ≡ home l → Does most limit m g l r m′ g′
   pub elsewhere : (m .place ≡ home l → ⊥) → (r ≡ Err Order) × (m′ ≡ m) × (g′ ≡ g)
 
--- the text that answers a line: the end of the arcs by what was read, and `under` by the vertices that are reached
+-- the trace from s to t, or the empty list where there is none
+pub record TraceOrNone (g : Model) (s t : ℕ) (path : List ℕ) : Type 0 where
+  pub found : 0 < length path → Traced g t s path
+  pub none : length path ≡ 0 → (list : List ℕ) → Traced g t s list → ⊥
+
+-- the line that answers `trace`
+abbrev pub TraceText : Model → ℕ → ℕ → List ℕ → Type 0
+TraceText g s t text = (path : List ℕ) × TraceOrNone g s t path × (text ≡ trace-line s t path)
+
+-- the line that answers `under`
+abbrev pub UnderText : Model → ℕ → List ℕ → Type 0
+UnderText g s text = (list : List ℕ) × Reached g s list × (text ≡ under-line s list)
+
+-- the fault of a question where s or t is no vertex
+abbrev pub NotVertices : Model → ℕ → ℕ → Fault → Type 0
+NotVertices g s t f = (s < g .order → t < g .order → ⊥) × (f ≡ Question NoVertex)
+
+-- the text that answers a line: the end of the arcs by what was read, `trace` by the path, and `under` by the vertices that are reached
 abbrev pub Answers : Machine → Model → Line → List ℕ → Type 0
 Answers m g (Library n) text = text ≡ []
 Answers m g (Papers n) text = text ≡ []
 Answers m g (Arc u v) text = text ≡ []
 Answers m g (End n) text = text ≡ header-line (m .library) (g .order) (m .arcs)
 Answers m g (Ask s t) text = text ≡ []
-Answers m g (Trace s t) text = text ≡ []
-Answers m g (Under s) text = (list : List ℕ) × Reached g s list × (text ≡ under-line s list)
+Answers m g (Trace s t) text = TraceText g s t text
+Answers m g (Under s) text = UnderText g s text
 
--- why a line is not answered: `under` of what is no vertex
+-- why a line is not answered: a vertex that it names is none
 abbrev pub Unanswered : Model → Line → Fault → Type 0
 Unanswered g (Library n) f = ⊥
 Unanswered g (Papers n) f = ⊥
 Unanswered g (Arc u v) f = ⊥
 Unanswered g (End n) f = ⊥
 Unanswered g (Ask s t) f = ⊥
-Unanswered g (Trace s t) f = ⊥
-Unanswered g (Under s) f = (g .order ≤ s) × (f ≡ Question NoVertex)
+Unanswered g (Trace s t) f = NotVertices g s t f
+Unanswered g (Under s) f = NotVertices g s s f

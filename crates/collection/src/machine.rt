@@ -3,7 +3,7 @@ ghost use mathlib.Core.Path.{_≡_};
 ghost use Prim.Native.Nat.{_+_, _<_, _≤_};
 ghost use Rattle.std.specs.Results.{Cases};
 ghost use Rattle.answers.specs.Held.{held};
-ghost use Rattle.collection.specs.Moves.{Moves, Answers, Unanswered, start};
+ghost use Rattle.collection.specs.Moves.{Moves, Answers, Unanswered, TraceText, UnderText, NotVertices, start};
 use crate::faults::Fault;
 use crate::faults::FaultFromGrowth;
 use crate::faults::FaultFromQuestion;
@@ -13,6 +13,7 @@ use graph::Digraph;
 use graph::GrowableDigraph;
 use graph::add_vertices;
 use lines::Line;
+use search::trace;
 use search::under;
 
 // Where the reader stands.
@@ -70,13 +71,13 @@ impl Machine {
                 }
                 self.place = Place::AmongQuestions;
             }
-            (Place::AmongQuestions, Line::Ask(s, t) | Line::Trace(s, t)) => {
+            (Place::AmongQuestions, Line::Ask(s, t)) => {
                 let n = graph.vertex_count();
                 if s >= n || t >= n {
                     return Err(Fault::Question(search::Refusal::NoVertex));
                 }
             }
-            (Place::AmongQuestions, Line::Under(_)) => {}
+            (Place::AmongQuestions, Line::Trace(_, _) | Line::Under(_)) => {}
             _ => return Err(Fault::Order),
         }
         Ok(())
@@ -88,12 +89,27 @@ impl Machine {
     {
         match line {
             Line::End(_) => Ok(printed::header(self.library, graph.vertex_count(), self.arcs)),
-            Line::Under(s) => {
-                let mut list = [0u16; 512];
-                let count = under(graph, s, &mut list)? as usize;
-                Ok(printed::under(s, &list[0..count]))
-            }
+            Line::Trace(s, t) => trace_line(graph, s, t),
+            Line::Under(s) => under_line(graph, s),
             _ => Ok(LineBuffer::new()),
         }
     }
+}
+
+// The line with the path from s to t.
+fn trace_line<G: Digraph>(graph: &G, s: u16, t: u16) -> Result<LineBuffer, Fault>
+    ensures { λ r. ⌜ Cases r (λ b. TraceText (G·Digraph .model (now (graph .entry))) s t (held b)) (λ f. NotVertices (G·Digraph .model (now (graph .entry))) s t f) ⌝ }
+{
+    let mut path = [0u16; 512];
+    let count = trace(graph, s, t, &mut path)? as usize;
+    Ok(printed::trace(s, t, &path[0..count]))
+}
+
+// The line with the vertices that s reaches.
+fn under_line<G: Digraph>(graph: &G, s: u16) -> Result<LineBuffer, Fault>
+    ensures { λ r. ⌜ Cases r (λ b. UnderText (G·Digraph .model (now (graph .entry))) s (held b)) (λ f. NotVertices (G·Digraph .model (now (graph .entry))) s s f) ⌝ }
+{
+    let mut list = [0u16; 512];
+    let count = under(graph, s, &mut list)? as usize;
+    Ok(printed::under(s, &list[0..count]))
 }

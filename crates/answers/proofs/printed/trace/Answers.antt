@@ -16,5 +16,5 @@ middle c =
 pub returns : need.returns
 returns c =
     let front : _ ≡ kept (trace-line (c .args .s) (c .args .t) (c .args .path .now)) =
-        all-gained (gains-from (c .new-line .ensures) (gains-then (c .text .ensures) (gains-then (gains-then (c .number .ensures) (gains-then (c .text-2 .ensures) (c .number-2 .ensures))) (gains-then (c .text-3 .ensures) (gains-then (c .number-3 .ensures) (gains-then (c .text-4 .ensures) (gains-then (middle c) (c .text-5 .ensures)))))))) in
+    all-gained (gains-from (c .new-line .ensures) (gains-then (c .text .ensures) (gains-then (gains-then (c .number .ensures) (gains-then (c .text-2 .ensures) (c .number-2 .ensures))) (gains-then (c .text-3 .ensures) (gains-then (c .number-3 .ensures) (gains-then (c .text-4 .ensures) (gains-then (middle c) (c .text-5 .ensures)))))))) in
     record { front = front; whole = λ few small. front ∙ kept-all _ (trace-short (c .args .s) (c .args .t) (c .args .path .now) (c .fits .s .fits) (c .fits .t .fits) few small) }
