@@ -10,13 +10,8 @@ use lib.Seq.{getD-set-other}
 use Rattle.std.proofs.shelf.Tests.{or-parts, eqb-false}
 use Rattle.std.proofs.shelf.Lists.{length-replicate, length-set}
 use Rattle.std.specs.shelf.Lists.{All}
-use Rattle.search.specs.Under.{has}
+use Rattle.search.specs.Under.{has, Distinct}
 use Rattle.search.proofs.Marks.{ones, ones-le, ones-set, ones-none, no-mark}
-
--- no entry stands in the list again
-abbrev pub Distinct : List ℕ → Type 0
-Distinct [] = Unit {0}
-Distinct (x ∷ xs) = (has x xs ≡ false) × Distinct xs
 
 -- n marks, set at the entries
 abbrev seen : ℕ → List ℕ → List Bool

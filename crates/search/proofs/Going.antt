@@ -20,7 +20,7 @@ use Rattle.search.specs.Trace.{LowestMarked, Leads, Trace, arrives, goes, Trac
 use Rattle.search.proofs.Listing.{not-refused}
 use Rattle.search.proofs.Traces.{leads-one, trace-below, trace-short, trace-reaches, trace-where-path}
 
-neither-refused : (n s t room : ℕ) → s < n → t < n → n ≤ room → refusal-of-two n s t room ≡ None
+pub neither-refused : (n s t room : ℕ) → s < n → t < n → n ≤ room → refusal-of-two n s t room ≡ None
 neither-refused n s t room b d r = cond-false (leb n s) _ _ (lt-leb n s b) ∙ not-refused n t room d r
 
 -- the marks of the vertices that reach t

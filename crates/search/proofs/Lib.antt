@@ -1,7 +1,7 @@
 mod Marks
-mod Lists
+pub mod Lists
 mod Listing
 mod Distinct
 mod Traces
-mod Going
+pub mod Going
 mod Determined

@@ -14,7 +14,8 @@ use Rattle.graph.specs.Model.{Model, Proper}
 use Rattle.graph.specs.Paths.{Path, stay, walk, Reaches, Cycle}
 use Rattle.search.specs.Under.{has}
 use Rattle.search.specs.Trace.{Leads, Trace, arrives, goes, Rises}
-use Rattle.search.proofs.Distinct.{Distinct, pigeonhole}
+use Rattle.search.proofs.Distinct.{pigeonhole}
+use Rattle.search.specs.Under.{Distinct}
 
 pub leads-one : (g : Model) (t u v w : ℕ) → Leads g t u v → Leads g t u w → v ≡ w
 leads-one g t u v w h k =

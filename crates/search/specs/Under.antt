@@ -23,6 +23,11 @@ abbrev pub has : ℕ → List ℕ → Bool
 has w [] = false
 has w (x ∷ xs) = eqb w x || has w xs
 
+-- no entry stands twice in the list
+abbrev pub Distinct : List ℕ → Type 0
+Distinct [] = Unit {0}
+Distinct (x ∷ xs) = (has x xs ≡ false) × Distinct xs
+
 -- each entry is below all that follow it
 abbrev pub Ascending : List ℕ → Type 0
 Ascending [] = Unit {0}

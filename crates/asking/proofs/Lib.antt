@@ -1,0 +1,7 @@
+mod Lists
+mod Successors
+mod Kept
+mod Verdicts
+mod Steps
+mod Determined
+mod Ending
