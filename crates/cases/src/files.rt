@@ -19,8 +19,8 @@ fn prints(input: &str, expected: &str) -> Result<(), Fail> {
 #[test]
 fn six_vertices() -> Result<(), Fail> {
     prints(
-        "library=7\npapers=6\narc=0,2\narc=1,2\narc=1,3\narc=2,4\nend=4\nask=1,4\ntrace=0,3\ntrace=1,4\ntrace=5,5\nunder=1\nunder=5\nunder=0\n",
-        "library=7 papers=6 arcs=4\ntrace=0,3 length=0 path=none\ntrace=1,4 length=3 path=1,2,4\ntrace=5,5 length=1 path=5\nunder=1 count=4 list=1,2,3,4\nunder=5 count=1 list=5\nunder=0 count=3 list=0,2,4\n",
+        "library=7\npapers=6\narc=0,2\narc=1,2\narc=1,3\narc=2,4\nend=4\nask=1,4\nask=4,1\nask=5,5\ntrace=0,3\ntrace=1,4\ntrace=5,5\nunder=1\nunder=5\nunder=0\n",
+        "library=7 papers=6 arcs=4\nask=1,4 answer=yes ground=0 opened=3\nask=4,1 answer=no ground=0 opened=1\nask=5,5 answer=yes ground=1 opened=0\ntrace=0,3 length=0 path=none\ntrace=1,4 length=3 path=1,2,4\ntrace=5,5 length=1 path=5\nunder=1 count=4 list=1,2,3,4\nunder=5 count=1 list=5\nunder=0 count=3 list=0,2,4\n",
     )
 }
 

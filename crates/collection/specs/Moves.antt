@@ -1,7 +1,7 @@
 -- What a line of a collection file does, and what answers it. Assumes nothing.
 use mathlib.Core.Path.{_≡_}
 use mathlib.Core.List.{List, []}
-use Prim.Native.Nat.{ℕ, _+_, _≤_, _<_}
+use Prim.Native.Nat.{ℕ, _+_, _<_}
 use Rattle.std.specs.declared.result.Result.{Result}
 use Rattle.std.specs.declared.result.Result.the-variants.{Ok, Err}
 use Rattle.graph.specs.Model.{Model}
@@ -11,7 +11,13 @@ use Rattle.search.specs.declared.Refusal.the-variants.{NoVertex}
 use Rattle.search.specs.Under.{Under as Reached}
 use Rattle.lines.specs.declared.Line.{Line}
 use Rattle.lines.specs.declared.Line.the-variants.{Library, Papers, Arc, End, Ask, Trace, Under}
-use Rattle.answers.specs.Printed.{header-line, trace-line, under-line}
+use Rattle.answers.specs.Printed.{header-line, ask-line, trace-line, under-line}
+use Rattle.std.specs.declared.option.Option.{Option}
+use Rattle.labels.specs.declared.decision.Decision.{Decision}
+use Rattle.labels.specs.Judges.{same}
+use Rattle.asking.specs.declared.answer.Answer.{Answer}
+use Rattle.asking.specs.Search.{label-at, told}
+use Rattle.asking.specs.Questions.{Found}
 use Rattle.search.specs.Trace.{Trace as Traced}
 use lib.ListN.{length}
 use Rattle.collection.specs.declared.faults.Fault.{Fault}
@@ -44,11 +50,6 @@ abbrev pub after : Result (Unit {0}) Refusal → Machine → Machine → Machine
 after (Ok x) m m′ = m
 after (Err e) m m′ = m′
 
--- a question about s and t: refused where one is no vertex
-pub record Asked (g : Model) (s t : ℕ) (r : Result (Unit {0}) Fault) : Type 0 where
-  pub there : s < g .order → t < g .order → r ≡ Ok tt
-  pub absent : (s < g .order → t < g .order → ⊥) → r ≡ Err (Question NoVertex)
-
 -- the end of the arcs: the count is the number of arc lines, or out of place
 pub record Counted (m : Machine) (count : ℕ) (r : Result (Unit {0}) Fault) (m′ : Machine) : Type 0 where
   pub right : count ≡ m .arcs → (r ≡ Ok tt) × (m′ ≡ record { place = AmongQuestions; library = m .library; arcs = m .arcs })
@@ -64,7 +65,7 @@ Does most limit m g (Arc u v) r m′ g′ =
     (q : Result (Unit {0}) Refusal) × ArcAdded limit g g′ u v q × (r ≡ carried q)
     × (m′ ≡ after q (record { place = AmongArcs; library = m .library; arcs = m .arcs + 1 }) m)
 Does most limit m g (End k) r m′ g′ = Counted m k r m′ × (g′ ≡ g)
-Does most limit m g (Ask s t) r m′ g′ = Asked g s t r × (m′ ≡ m) × (g′ ≡ g)
+Does most limit m g (Ask s t) r m′ g′ = (r ≡ Ok tt) × (m′ ≡ m) × (g′ ≡ g)
 Does most limit m g (Trace s t) r m′ g′ = (r ≡ Ok tt) × (m′ ≡ m) × (g′ ≡ g)
 Does most limit m g (Under s) r m′ g′ = (r ≡ Ok tt) × (m′ ≡ m) × (g′ ≡ g)
 
@@ -72,6 +73,15 @@ Does most limit m g (Under s) r m′ g′ = (r ≡ Ok tt) × (m′ ≡ m) × (g�
 pub record Moves (most limit : ℕ) (m : Machine) (g : Model) (l : Line) (r : Result (Unit {0}) Fault) (m′ : Machine) (g′ : Model) : Type 0 where
   pub there : m .place ≡ home l → Does most limit m g l r m′ g′
   pub elsewhere : (m .place ≡ home l → ⊥) → (r ≡ Err Order) × (m′ ≡ m) × (g′ ≡ g)
+
+-- what is said of a vertex v and the goal t by no test but the equality: yes where they are the same
+abbrev pub equality : ℕ → ℕ → Option Decision
+equality t v = told same (label-at []) t v
+
+-- the line that answers `ask`: the search opens the vertices `all`, with no test but the equality
+abbrev pub AskText : Model → ℕ → ℕ → List ℕ → Type 0
+AskText g s t text =
+    (a : Answer) × (all : List ℕ) × Found g (equality t) s (equality t s) a all × (text ≡ ask-line s t (a .verdict) (a .ground) (a .opened))
 
 -- the trace from s to t, or the empty list where there is none
 pub record TraceOrNone (g : Model) (s t : ℕ) (path : List ℕ) : Type 0 where
@@ -90,13 +100,13 @@ UnderText g s text = (list : List ℕ) × Reached g s list × (text ≡ under-li
 abbrev pub NotVertices : Model → ℕ → ℕ → Fault → Type 0
 NotVertices g s t f = (s < g .order → t < g .order → ⊥) × (f ≡ Question NoVertex)
 
--- the text that answers a line: the end of the arcs by what was read, `trace` by the path, and `under` by the vertices that are reached
+-- the text that answers a line: the end of the arcs by what was read, `ask` by a search, `trace` by the path, and `under` by the vertices that are reached
 abbrev pub Answers : Machine → Model → Line → List ℕ → Type 0
 Answers m g (Library n) text = text ≡ []
 Answers m g (Papers n) text = text ≡ []
 Answers m g (Arc u v) text = text ≡ []
 Answers m g (End n) text = text ≡ header-line (m .library) (g .order) (m .arcs)
-Answers m g (Ask s t) text = text ≡ []
+Answers m g (Ask s t) text = AskText g s t text
 Answers m g (Trace s t) text = TraceText g s t text
 Answers m g (Under s) text = UnderText g s text
 
@@ -106,6 +116,6 @@ Unanswered g (Library n) f = ⊥
 Unanswered g (Papers n) f = ⊥
 Unanswered g (Arc u v) f = ⊥
 Unanswered g (End n) f = ⊥
-Unanswered g (Ask s t) f = ⊥
+Unanswered g (Ask s t) f = NotVertices g s t f
 Unanswered g (Trace s t) f = NotVertices g s t f
 Unanswered g (Under s) f = NotVertices g s s f

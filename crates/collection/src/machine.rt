@@ -3,15 +3,18 @@ ghost use mathlib.Core.Path.{_≡_};
 ghost use Prim.Native.Nat.{_+_, _<_, _≤_};
 ghost use Rattle.std.specs.Results.{Cases};
 ghost use Rattle.answers.specs.Held.{held};
-ghost use Rattle.collection.specs.Moves.{Moves, Answers, Unanswered, TraceText, UnderText, NotVertices, start};
+ghost use Rattle.collection.specs.Moves.{Moves, Answers, Unanswered, AskText, TraceText, UnderText, NotVertices, start};
 use crate::faults::Fault;
 use crate::faults::FaultFromGrowth;
 use crate::faults::FaultFromQuestion;
 use answers::buffer::LineBuffer;
 use answers::printed;
+use asking::ask;
 use graph::Digraph;
 use graph::GrowableDigraph;
 use graph::add_vertices;
+use labels::Same;
+use labels::SameTest;
 use lines::Line;
 use search::trace;
 use search::under;
@@ -71,13 +74,7 @@ impl Machine {
                 }
                 self.place = Place::AmongQuestions;
             }
-            (Place::AmongQuestions, Line::Ask(s, t)) => {
-                let n = graph.vertex_count();
-                if s >= n || t >= n {
-                    return Err(Fault::Question(search::Refusal::NoVertex));
-                }
-            }
-            (Place::AmongQuestions, Line::Trace(_, _) | Line::Under(_)) => {}
+            (Place::AmongQuestions, Line::Ask(_, _) | Line::Trace(_, _) | Line::Under(_)) => {}
             _ => return Err(Fault::Order),
         }
         Ok(())
@@ -89,11 +86,21 @@ impl Machine {
     {
         match line {
             Line::End(_) => Ok(printed::header(self.library, graph.vertex_count(), self.arcs)),
+            Line::Ask(s, t) => ask_line(graph, s, t),
             Line::Trace(s, t) => trace_line(graph, s, t),
             Line::Under(s) => under_line(graph, s),
             _ => Ok(LineBuffer::new()),
         }
     }
+}
+
+// The line that says whether s reaches t, by a search with no test but the equality.
+fn ask_line<G: Digraph>(graph: &G, s: u16, t: u16) -> Result<LineBuffer, Fault>
+    ensures { λ r. ⌜ Cases r (λ b. AskText (G·Digraph .model (now (graph .entry))) s t (held b)) (λ f. NotVertices (G·Digraph .model (now (graph .entry))) s t f) ⌝ }
+{
+    let mut opened = [0u16; 512];
+    let answer = ask(graph, &[], &Same, s, t, &mut opened)?;
+    Ok(printed::ask(s, t, answer.verdict, answer.ground, answer.opened))
 }
 
 // The line with the path from s to t.
