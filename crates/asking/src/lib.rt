@@ -8,7 +8,6 @@ ghost use Rattle.std.specs.declared.option.Option.the-variants.{None};
 ghost use Rattle.asking.specs.Search.{label-at, told};
 ghost use Rattle.asking.specs.Questions.{Asked, Answered, AnsweredRight, OneAnswer};
 use graph::Digraph;
-use labels::Decision;
 use labels::Label;
 use labels::Test;
 use labels::Verdict;
