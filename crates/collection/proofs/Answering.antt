@@ -1,5 +1,12 @@
 -- The lines that answer `trace` and `under`. Assumes nothing.
-use mathlib.Core.Path.{_≡_, sym, subst}
+use mathlib.Core.Path.{_≡_, sym, subst, _∙_}
+use mathlib.Core.Bool.{cond}
+use mathlib.Core.Logic.{⊎-elim}
+use lib.Dec.{leb, ltb}
+use Rattle.std.specs.declared.option.Option.the-variants.{Some, None}
+use Rattle.std.proofs.shelf.Tests.{cases-bool, cond-true, cond-false, leb-false}
+use Rattle.search.specs.declared.Refusal.the-variants.{NoVertex, ShortSlice}
+use Rattle.search.specs.Refusals.{refusal, refusal-of-two}
 use mathlib.Core.List.{List}
 use Prim.Native.Nat.{ℕ, _<_, _≤_}
 use native.Mathlib.Omega.{arith}
@@ -12,6 +19,21 @@ use Rattle.search.specs.Under.{UnderWritten, Under as Reached}
 use Rattle.search.specs.Trace.{TraceWritten}
 use Rattle.answers.specs.Printed.{trace-line, under-line}
 use Rattle.collection.specs.Moves.{TraceOrNone}
+
+-- a question that is not refused names vertices
+pub vertex : (n s room : ℕ) → refusal n s room ≡ None → s < n
+vertex n s room e =
+    ⊎-elim
+    (λ t. let f = cond-true (leb n s) (Some NoVertex) (cond (ltb room n) (Some ShortSlice) None) t in let z : _≡_ {A = ℕ} 0 1 = cc in absurd (omega arith))
+    (λ f. leb-false n s f)
+    (cases-bool (leb n s))
+
+pub vertices : (n s t room : ℕ) → refusal-of-two n s t room ≡ None → (s < n) × (t < n)
+vertices n s t room e =
+    ⊎-elim
+    (λ b. let f = cond-true (leb n s) (Some NoVertex) (refusal n t room) b in let z : _≡_ {A = ℕ} 0 1 = cc in absurd (omega arith))
+    (λ b. (leb-false n s b, vertex n t room (sym (cond-false (leb n s) (Some NoVertex) (refusal n t room) b) ∙ e)))
+    (cases-bool (leb n s))
 
 -- the first n entries that `under` wrote, of which k is another name, are printed whole
 pub under-text : (g : Model) → Proper g → (s : ℕ) (before list text : List ℕ) (n k : ℕ) → k ≡ n → UnderWritten g s before list n →

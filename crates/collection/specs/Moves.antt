@@ -78,23 +78,24 @@ pub record Moves (most limit : ℕ) (m : Machine) (g : Model) (l : Line) (r : Re
 abbrev pub equality : ℕ → ℕ → Option Decision
 equality t v = told same (label-at []) t v
 
--- the line that answers `ask`: the search opens the vertices `all`, with no test but the equality
+-- the line that answers `ask` of two vertices: the search opens the vertices `all`, with no test but the equality
 abbrev pub AskText : Model → ℕ → ℕ → List ℕ → Type 0
 AskText g s t text =
-    (a : Answer) × (all : List ℕ) × Found g (equality t) s (equality t s) a all × (text ≡ ask-line s t (a .verdict) (a .ground) (a .opened))
+    (s < g .order) × (t < g .order) × ((a : Answer) × (all : List ℕ) × Found g (equality t) s (equality t s) a all
+    × (text ≡ ask-line s t (a .verdict) (a .ground) (a .opened)))
 
 -- the trace from s to t, or the empty list where there is none
 pub record TraceOrNone (g : Model) (s t : ℕ) (path : List ℕ) : Type 0 where
   pub found : 0 < length path → Traced g t s path
   pub none : length path ≡ 0 → (list : List ℕ) → Traced g t s list → ⊥
 
--- the line that answers `trace`
+-- the line that answers `trace` of two vertices
 abbrev pub TraceText : Model → ℕ → ℕ → List ℕ → Type 0
-TraceText g s t text = (path : List ℕ) × TraceOrNone g s t path × (text ≡ trace-line s t path)
+TraceText g s t text = (s < g .order) × (t < g .order) × ((path : List ℕ) × TraceOrNone g s t path × (text ≡ trace-line s t path))
 
--- the line that answers `under`
+-- the line that answers `under` of a vertex
 abbrev pub UnderText : Model → ℕ → List ℕ → Type 0
-UnderText g s text = (list : List ℕ) × Reached g s list × (text ≡ under-line s list)
+UnderText g s text = (s < g .order) × ((list : List ℕ) × Reached g s list × (text ≡ under-line s list))
 
 -- the fault of a question where s or t is no vertex
 abbrev pub NotVertices : Model → ℕ → ℕ → Fault → Type 0
