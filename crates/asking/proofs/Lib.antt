@@ -1,7 +1,7 @@
 mod Lists
 mod Successors
 mod Kept
-mod Verdicts
+pub mod Verdicts
 mod Steps
 mod Determined
 mod Ending

@@ -149,11 +149,11 @@ module _ (m : Model) (proper : Proper m) (tells : ℕ → Option Decision) (s t 
       exact r (kept-puts m proper w rest waiting put opened k h) (sure-puts w rest waiting put opened i (goal w e))
   exact (leaves {waiting} {put} {opened} r) k i = exact r (kept-leaves m proper waiting put opened k) (sure-leaves waiting put opened i)
 
-  found-claim : (o : Option Decision) (a : Answer) (all : List ℕ) → s < m .order → tells s ≡ o → Found m tells s o a all → Claim m s t (a .verdict)
+  pub found-claim : (o : Option Decision) (a : Answer) (all : List ℕ) → s < m .order → tells s ≡ o → Found m tells s o a all → Claim m s t (a .verdict)
   found-claim (Some d) a all b e f = claimed s d (a .verdict) b e (sym (f .0))
   found-claim None a all b e f = exact (f .0) (kept-starts m proper s b) (sure-starts (goal s e))
 
-verdict-right : (m : Model) (s t : ℕ) (v : Verdict) → Claim m s t v → RightVerdict m s t v
+pub verdict-right : (m : Model) (s t : ℕ) (v : Verdict) → Claim m s t v → RightVerdict m s t v
 verdict-right m s t Yes c = record {
   yes-only = λ _. c;
   yes-all = λ _. refl;

@@ -1,10 +1,10 @@
--- The lines that answer `trace` and `under`. Assumes nothing.
-use mathlib.Core.Path.{_≡_, sym, subst, _∙_}
-use mathlib.Core.Bool.{cond}
+-- The lines that answer `ask`, `trace` and `under`. Assumes nothing.
+use mathlib.Core.Path.{_≡_, refl, sym, subst, _∙_}
+use mathlib.Core.Bool.{Bool, true, false, cond}
 use mathlib.Core.Logic.{⊎-elim}
-use lib.Dec.{leb, ltb}
+use lib.Dec.{eqb, leb, ltb}
 use Rattle.std.specs.declared.option.Option.the-variants.{Some, None}
-use Rattle.std.proofs.shelf.Tests.{cases-bool, cond-true, cond-false, leb-false}
+use Rattle.std.proofs.shelf.Tests.{cases-bool, cond-true, cond-false, leb-false, eqb-true, eqb-false}
 use Rattle.search.specs.declared.Refusal.the-variants.{NoVertex, ShortSlice}
 use Rattle.search.specs.Refusals.{refusal, refusal-of-two}
 use mathlib.Core.List.{List}
@@ -18,7 +18,14 @@ use Rattle.graph.specs.Model.{Model, Proper}
 use Rattle.search.specs.Under.{UnderWritten, Under as Reached}
 use Rattle.search.specs.Trace.{TraceWritten}
 use Rattle.answers.specs.Printed.{trace-line, under-line}
-use Rattle.collection.specs.Moves.{TraceOrNone}
+use Rattle.graph.specs.Paths.{Reaches, stay}
+use Rattle.labels.specs.declared.decision.Verdict.the-variants.{Yes}
+use Rattle.labels.specs.Judges.{first, says, on-ground}
+use Rattle.labels.specs.Laws.{RightIfAny}
+use Rattle.asking.specs.declared.answer.Answer.{Answer}
+use Rattle.asking.specs.Questions.{Found, RightVerdict}
+use Rattle.asking.proofs.Verdicts.{found-claim, verdict-right}
+use Rattle.collection.specs.Moves.{equality, TraceOrNone}
 
 -- a question that is not refused names vertices
 pub vertex : (n s room : ℕ) → refusal n s room ≡ None → s < n
@@ -62,3 +69,18 @@ trace-text g p s t before list text n k e long done prints =
       subst (λ j. TraceOrNone g s t (take j list)) (sym e) found,
       prints (omega (arith, length-take k list)) (subst (λ j. All (λ x. x < 1000) (take j list)) (sym e) within),
     )
+
+-- what the equality says is right, and it says something of the goal
+equal-right : (g : Model) (t w : ℕ) (b : Bool) → eqb w t ≡ b → RightIfAny g w t (first (on-ground 1 (says b Yes)) (on-ground 1 (says b Yes)))
+equal-right g t w true e = record { claim = subst (Reaches g w) (eqb-true w t e) ∣ stay ∣₁ }
+equal-right g t w false e = tt
+
+unequal : (t w : ℕ) (b : Bool) → eqb w t ≡ b → first (on-ground 1 (says b Yes)) (on-ground 1 (says b Yes)) ≡ None → w ≡ t → ⊥
+unequal t w true e none = let z : _≡_ {A = ℕ} 0 1 = cc in absurd (omega arith)
+unequal t w false e none = eqb-false w t e
+
+-- so the search with no other test answers right
+pub equality-right : (g : Model) → Proper g → (s t : ℕ) (a : Answer) (all : List ℕ) → s < g .order → Found g (equality t) s (equality t s) a all → RightVerdict g s t (a .verdict)
+equality-right g p s t a all b f =
+    verdict-right g s t (a .verdict)
+    (found-claim g p (equality t) s t (λ w _. equal-right g t w (eqb w t) refl) (λ w. unequal t w (eqb w t) refl) (equality t s) a all b refl f)

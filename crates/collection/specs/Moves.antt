@@ -17,7 +17,7 @@ use Rattle.labels.specs.declared.decision.Decision.{Decision}
 use Rattle.labels.specs.Judges.{same}
 use Rattle.asking.specs.declared.answer.Answer.{Answer}
 use Rattle.asking.specs.Search.{label-at, told}
-use Rattle.asking.specs.Questions.{Found}
+use Rattle.asking.specs.Questions.{Found, RightVerdict}
 use Rattle.search.specs.Trace.{Trace as Traced}
 use lib.ListN.{length}
 use Rattle.collection.specs.declared.faults.Fault.{Fault}
@@ -78,11 +78,11 @@ pub record Moves (most limit : ℕ) (m : Machine) (g : Model) (l : Line) (r : Re
 abbrev pub equality : ℕ → ℕ → Option Decision
 equality t v = told same (label-at []) t v
 
--- the line that answers `ask` of two vertices: the search opens the vertices `all`, with no test but the equality
+-- the line that answers `ask` of two vertices: the search opens the vertices `all`, with no test but the equality; yes exactly where s reaches t
 abbrev pub AskText : Model → ℕ → ℕ → List ℕ → Type 0
 AskText g s t text =
     (s < g .order) × (t < g .order) × ((a : Answer) × (all : List ℕ) × Found g (equality t) s (equality t s) a all
-    × (text ≡ ask-line s t (a .verdict) (a .ground) (a .opened)))
+    × RightVerdict g s t (a .verdict) × (text ≡ ask-line s t (a .verdict) (a .ground) (a .opened)))
 
 -- the trace from s to t, or the empty list where there is none
 pub record TraceOrNone (g : Model) (s t : ℕ) (path : List ℕ) : Type 0 where
