@@ -15,6 +15,7 @@ use Rattle.labels.specs.declared.decision.Verdict.the-variants.{Yes, No}
 use Rattle.labels.specs.declared.decision.Decision.{Decision}
 use Rattle.asking.specs.declared.answer.Answer.{Answer}
 use Rattle.search.specs.declared.Refusal.{Refusal}
+use Rattle.search.proofs.Determined.{clash, same-refusal}
 use Rattle.asking.specs.Search.{Place, Runs, ends, opens, finds, drops, knows, puts, leaves}
 use Rattle.asking.specs.Questions.{Found, Asked}
 
@@ -69,17 +70,11 @@ same-written : (before after after′ : List ℕ) (c d : ℕ) → c ≡ d → ta
 same-written before after after′ c d q e f h =
     sym (take-append-drop c after) ∙ ap (λ x. x ++ drop c after) e ∙ ap (λ x. take d after′ ++ x) (f ∙ ap (λ x. drop x before) q ∙ sym h) ∙ take-append-drop d after′
 
-refused-or-not : {A : Type 0} (o : Option Refusal) (e : Refusal) → o ≡ None → o ≡ Some e → A
-refused-or-not o e p q = let z : _≡_ {A = ℕ} 0 1 = cc in absurd (omega arith)
-
-one-refusal : (o : Option Refusal) (e d : Refusal) → o ≡ Some e → o ≡ Some d → e ≡ d
-one-refusal o e d p q = cc
-
 pub one-answer : (g : Model) (tells : ℕ → Option Decision) (s t : ℕ) (before after after′ : List ℕ) (r r′ : Result Answer Refusal) →
     Asked g tells s t before after r → Asked g tells s t before after′ r′ → (r ≡ r′) × (after ≡ after′)
 one-answer g tells s t before after after′ (Ok a) (Ok b) h i =
     let q = one-found g tells s (tells s) a b after after′ (h .1 .found) (i .1 .found) in
     (ap Ok (q .0), same-written before after after′ (a .opened) (b .opened) (ap (λ x. x .opened) (q .0)) (q .1) (h .1 .rest) (i .1 .rest))
-one-answer g tells s t before after after′ (Ok a) (Err d) h i = refused-or-not _ d (h .0) (i .0)
-one-answer g tells s t before after after′ (Err c) (Ok b) h i = refused-or-not _ c (i .0) (h .0)
-one-answer g tells s t before after after′ (Err c) (Err d) h i = (ap Err (one-refusal _ c d (h .0) (i .0)), h .1 ∙ sym (i .1))
+one-answer g tells s t before after after′ (Ok a) (Err d) h i = clash _ d (h .0) (i .0)
+one-answer g tells s t before after after′ (Err c) (Ok b) h i = clash _ c (i .0) (h .0)
+one-answer g tells s t before after after′ (Err c) (Err d) h i = (ap Err (same-refusal _ c d (h .0) (i .0)), h .1 ∙ sym (i .1))

@@ -2,14 +2,13 @@
 use mathlib.Core.Path.{_≡_, sym, ap, _∙_}
 use mathlib.Core.List.{List, [], _∷_, _++_}
 use mathlib.Core.Bool.{Bool, false, _||_, or-assoc, or-comm}
-use Prim.Native.Nat.{ℕ, _+_, _<_}
-use native.Mathlib.Omega.{arith}
+use Prim.Native.Nat.{ℕ, _+_}
 use lib.Dec.{eqb}
 use lib.ListN.{set, drop}
 use Rattle.std.proofs.shelf.Tests.{or-from, or-parts, ne-eqb, eqb-false}
-use Rattle.std.proofs.shelf.Lists.{drop-set-lt, drop-drop}
 use Rattle.search.specs.Under.{has}
 use Rattle.search.proofs.Lists.{has-push}
+use Rattle.search.proofs.Listing.{rest-more as write-rest}
 use Rattle.search.specs.Under.{Distinct}
 
 -- the first of three comes last
@@ -28,7 +27,4 @@ distinct-push (y ∷ xs) x k h =
 pub rest-more : (opened opened′ before : List ℕ) (count count′ u : ℕ) → count′ ≡ count + 1 → opened′ ≡ set opened count u →
     drop count opened ≡ drop count before → drop count′ opened′ ≡ drop count′ before
 rest-more opened opened′ before count count′ u i j e =
-    let l : count < count + 1 = omega arith in
-    ap (λ x. drop x opened′) i ∙ ap (drop (count + 1)) j ∙
-    drop-set-lt (count + 1) opened count u l ∙ sym (drop-drop 1 count opened) ∙ ap (drop 1) e ∙ drop-drop 1 count before ∙
-    sym (ap (λ x. drop x before) i)
+    ap (λ x. drop x opened′) i ∙ ap (drop (count + 1)) j ∙ write-rest opened before count u e ∙ sym (ap (λ x. drop x before) i)

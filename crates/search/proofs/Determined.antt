@@ -48,10 +48,10 @@ one-list g s xs ys a b =
     (λ v h. b .all v (all-at (λ w. Reaches g s w) xs v (a .only) h))
     (λ v h. a .all v (all-at (λ w. Reaches g s w) ys v (b .only) h))
 
-clash : {A : Type 0} (o : Option Refusal) (e : Refusal) → o ≡ None → o ≡ Some e → A
+pub clash : {A : Type 0} (o : Option Refusal) (e : Refusal) → o ≡ None → o ≡ Some e → A
 clash o e p q = let z : _≡_ {A = ℕ} 0 1 = cc in absurd (omega arith)
 
-same-refusal : (o : Option Refusal) (e d : Refusal) → o ≡ Some e → o ≡ Some d → e ≡ d
+pub same-refusal : (o : Option Refusal) (e d : Refusal) → o ≡ Some e → o ≡ Some d → e ≡ d
 same-refusal o e d p q = cc
 
 pub one-under-answer : (g : Model) (s : ℕ) (before after after′ : List ℕ) (r r′ : Result ℕ Refusal) → length after ≡ length before → length after′ ≡ length before →

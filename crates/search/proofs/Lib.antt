@@ -1,7 +1,7 @@
 mod Marks
 pub mod Lists
-mod Listing
+pub mod Listing
 mod Distinct
 mod Traces
 pub mod Going
-mod Determined
+pub mod Determined
