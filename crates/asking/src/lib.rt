@@ -1,4 +1,6 @@
 // Whether one vertex reaches another, answered by tests on labels and, where they pass, by a search.
+#![tactic(auto)]
+
 ghost use Rattle.std.specs.Prelude.{◌≡◌, ◌<◌, ◌≤◌, length, None};
 ghost use Rattle.labels.specs.Labels.{Supports};
 ghost use Rattle.labels.specs.Rules.{Rules};

@@ -1,4 +1,6 @@
 // A collection file from its first line to its last: the graph that it names is made, its questions are answered.
+#![tactic(auto)]
+
 mod faults;
 mod machine;
 mod reading;

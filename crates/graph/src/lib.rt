@@ -1,4 +1,6 @@
 // Directed graphs: what one is, how any of them is read and grown, and the graph types that the library has.
+#![tactic(auto)]
+
 ghost use Rattle.std.specs.Prelude.{◌≡◌, ℕ, ◌≤◌};
 ghost use Rattle.graph.specs.Model.{Model, Proper, NextSuccessor, reversed as mirrored};
 ghost use Rattle.graph.specs.Growth.{VertexAdded, ArcAdded};

@@ -1,5 +1,7 @@
 // A binary heap, the greatest key first, as functions over a lent slice whose first `len` places hold the heap. They are right for every key
 // type whose order is total.
+#![tactic(auto)]
+
 ghost use Rattle.std.specs.Prelude.{◌≡◌, ◌+◌, ◌*◌, ◌<◌, ◌≤◌, length, MatchOption, MatchResult, slice_index_or};
 ghost use Rattle.std.specs.Cmp.{IsTotalOrder};
 ghost use Rattle.std.specs.Ordering.{is_lt};

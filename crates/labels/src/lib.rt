@@ -1,4 +1,6 @@
 // Labels of a graph's vertices, the rules that they meet, and the tests that read them.
+#![tactic(auto)]
+
 mod decision;
 mod label;
 mod orders;

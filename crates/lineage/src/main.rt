@@ -1,4 +1,6 @@
 // Reads a collection file from the standard input, and writes its answers to the standard output.
+#![tactic(auto)]
+
 ghost use Rattle.std.specs.Prelude.{◌≤◌, length, IfOk};
 
 use anyhow::anyhow;

@@ -1,4 +1,6 @@
 // The lines of a collection file: their permitted forms, and a reader that takes an input apart into lines.
+#![tactic(auto)]
+
 ghost use Rattle.std.specs.Prelude.{◌≡◌, ℕ, ◌<◌, T, ◌↔◌, length, MatchOption, ◌≢◌, slice_index};
 ghost use Rattle.lines.specs.Forms.{ParsesTo, Writes, WritesNone};
 ghost use Rattle.lines.specs.Parts.{FirstPlace, form, keyword, Lacks, SplitsAt, WritesNumber, WritesPair};

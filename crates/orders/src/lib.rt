@@ -1,4 +1,6 @@
 // The depth-first order of a graph's vertices.
+#![tactic(auto)]
+
 ghost use Rattle.std.specs.Prelude.{◌≡◌};
 ghost use Rattle.orders.specs.Refusals.{refusal_number};
 

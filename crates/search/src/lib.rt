@@ -1,4 +1,6 @@
 // Questions that are answered by walking a graph.
+#![tactic(auto)]
+
 ghost use Rattle.std.specs.Prelude.{◌≡◌};
 ghost use Rattle.search.specs.Refusals.{refusal_number};
 ghost use Rattle.search.specs.Under.{Marked, UnderAnswer, OneUnderAnswer};
