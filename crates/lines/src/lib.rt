@@ -45,19 +45,19 @@ enum Kind {
 fn kind_of(word: &[u8]) -> Option<Kind>
     ensures { MatchOption result ((k : Kind) → word.now ≢ keyword k) (λ k. word.now ≡ keyword k) }
 {
-    if word == b"library" {
+    if word == b"library".as_slice() {
         Some(Kind::Library)
-    } else if word == b"papers" {
+    } else if word == b"papers".as_slice() {
         Some(Kind::Papers)
-    } else if word == b"arc" {
+    } else if word == b"arc".as_slice() {
         Some(Kind::Arc)
-    } else if word == b"end" {
+    } else if word == b"end".as_slice() {
         Some(Kind::End)
-    } else if word == b"ask" {
+    } else if word == b"ask".as_slice() {
         Some(Kind::Ask)
-    } else if word == b"trace" {
+    } else if word == b"trace".as_slice() {
         Some(Kind::Trace)
-    } else if word == b"under" {
+    } else if word == b"under".as_slice() {
         Some(Kind::Under)
     } else {
         None

@@ -5,7 +5,7 @@ use Rattle.asking.proofs.Steps.{Holds, begins, opening, ending, leaving, finding
 use Rattle.asking.proofs.Lists.{rest_more}
 use Rattle.asking.proofs.Ending.{searched}
 use Rattle.asking.proofs.search.Goals as goal
-use Rattle.asking.proofs.search.Goals.{in-Some-tell+else-stops, in-default-tell+then-not-state-w, in-default-tell+else-not-state-w}
+use Rattle.asking.proofs.search.Goals.{in-Some-tell+else-stops, in_default-tell+then-not-state-w, in_default-tell+else-not-state-w}
 
 pub search-init : goal.search-init
 search-init g c =
@@ -38,16 +38,16 @@ loop-w-preserved g c =
             way.in-Some-tell.decision (sym way.in-Some-tell.ensures) (way.stops.ensures.no way.if-stops.false)),
         ap (λ x. x.count) way.state-is ∙ h.1,
       )
-      | in-default-tell+then-not-state-w way ↦ (
+      | in_default-tell+then-not-state-w way ↦ (
         subst (λ x. Holds m tells c.args.s (at (successors_from m c.open-u.result (w + 1))) x c.open-u.new.opened) (sym (way.state-is ∙ way.put.ensures))
             (putting m tells c.args.s c.loop-w.state c.open-u.new.opened c.open-u.result c.loop-w.from h.0 w found
-            (sym way.in-default-tell.ensures) way.if-not-state-w.true),
+            (sym way.in_default-tell.ensures) way.if-not-state-w.true),
         ap (λ x. x.count) (way.state-is ∙ way.put.ensures) ∙ h.1,
       )
-      | in-default-tell+else-not-state-w way ↦ (
+      | in_default-tell+else-not-state-w way ↦ (
         subst (λ x. Holds m tells c.args.s (at (successors_from m c.open-u.result (w + 1))) x c.open-u.new.opened) (sym way.state-is)
             (knowing m tells c.args.s c.loop-w.state c.open-u.new.opened c.open-u.result c.loop-w.from h.0 w found
-            (sym way.in-default-tell.ensures) way.if-not-state-w.false),
+            (sym way.in_default-tell.ensures) way.if-not-state-w.false),
         ap (λ x. x.count) way.state-is ∙ h.1,
       )
     ]
@@ -55,7 +55,7 @@ loop-w-preserved g c =
 pub search-preserved : goal.search-preserved
 search-preserved g c = (
   leaving (g.G.Digraph.model c.args.graph.now) (told (g.T.Test.judges c.args.test.now) (label_at c.args.labels.now) c.args.t) c.args.s
-      c.loop-w.state c.open-u.new.opened c.open-u.result c.loop-w.from c.loop-w.invariant.0 c.in-default.ensures,
+      c.loop-w.state c.open-u.new.opened c.open-u.result c.loop-w.from c.loop-w.invariant.0 c.in_default.ensures,
   rest_more c.search.opened c.open-u.new.opened c.args.opened.now c.search.state.count c.loop-w.state.count c.open-u.result
       (c.loop-w.invariant.1 ∙ ap (λ x. x.count) c.open-u.ensures.state) c.open-u.ensures.written c.search.invariant.1,
 )

@@ -8,23 +8,23 @@ use Rattle.heap.proofs.sift_down.Goals as goal
 pub loop-parent-init : goal.loop-parent-init
 loop-parent-init g c = (omega arith, rearranged_none, λ o. sinking_from (λ x y. is_lt (g.K.Ord.cmp x y)) c.args.heap.now c.args.end)
 
-pub returns-then-not-is-less : goal.returns-then-not-is-less
-returns-then-not-is-less g c =
+pub returns-then-not-is_less : goal.returns-then-not-is_less
+returns-then-not-is_less g c =
     let l = c.loop-parent in
-    let b = c.greater-child-child in record {
+    let b = c.greater_child-child in record {
       rearranged = l.invariant.1;
-      heaped = λ o h. sunk (λ x y. is_lt (g.K.Ord.cmp x y)) (ranks_by o (λ x. x)).one_way (ranks_by o (λ x. x)).chain l.heap l.parent b.result c.args.end (λ d. sym (c.is-less.ensures d) ∙ c.if-not-is-less.true) (b.ensures.greatest o) (l.invariant.2 o h);
+      heaped = λ o h. sunk (λ x y. is_lt (g.K.Ord.cmp x y)) (ranks_by o (λ x. x)).one_way (ranks_by o (λ x. x)).chain l.heap l.parent b.result c.args.end (λ d. sym (c.is_less.ensures d) ∙ c.if-not-is_less.true) (b.ensures.greatest o) (l.invariant.2 o h);
     }
 
 pub loop-parent-preserved : goal.loop-parent-preserved
 loop-parent-preserved g c =
     let l = c.loop-parent in
     let w = c.swap in
-    let b = c.greater-child-child in
+    let b = c.greater_child-child in
     let end = c.args.end in (
       omega arith,
       rearranged_more w.new.self l.parent b.result end (omega arith) (omega arith) (omega arith) w.ensures.after l.invariant.1,
-      λ o h. sinks (λ x y. is_lt (g.K.Ord.cmp x y)) (ranks_by o (λ x. x)).one_way (ranks_by o (λ x. x)).chain l.heap w.new.self l.parent b.result end (omega arith) (omega arith) (omega arith) (omega arith) w.ensures.after (λ d. sym (c.is-less.ensures d) ∙ c.if-not-is-less.false) (b.ensures.greatest o) (l.invariant.2 o h),
+      λ o h. sinks (λ x y. is_lt (g.K.Ord.cmp x y)) (ranks_by o (λ x. x)).one_way (ranks_by o (λ x. x)).chain l.heap w.new.self l.parent b.result end (omega arith) (omega arith) (omega arith) (omega arith) w.ensures.after (λ d. sym (c.is_less.ensures d) ∙ c.if-not-is_less.false) (b.ensures.greatest o) (l.invariant.2 o h),
     )
 
 pub returns : goal.returns

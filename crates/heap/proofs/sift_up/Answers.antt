@@ -7,11 +7,11 @@ use Rattle.heap.proofs.sift_up.Goals as goal
 pub loop-child-init : goal.loop-child-init
 loop-child-init g c = (omega arith, omega arith, rearranged_none, λ o. rising_from (λ x y. is_lt (g.K.Ord.cmp x y)) c.args.heap.now c.args.last)
 
-pub returns-then-not-is-less : goal.returns-then-not-is-less
-returns-then-not-is-less g c =
+pub returns-then-not-is_less : goal.returns-then-not-is_less
+returns-then-not-is_less g c =
     let l = c.loop-child in record {
       rearranged = l.invariant.2;
-      heaped = λ o h. risen (λ x y. is_lt (g.K.Ord.cmp x y)) l.heap l.child (c.args.last + 1) (λ d. sym (c.is-less.ensures d) ∙ c.if-not-is-less.true) (l.invariant.3 o h);
+      heaped = λ o h. risen (λ x y. is_lt (g.K.Ord.cmp x y)) l.heap l.child (c.args.last + 1) (λ d. sym (c.is_less.ensures d) ∙ c.if-not-is_less.true) (l.invariant.3 o h);
     }
 
 pub loop-child-preserved : goal.loop-child-preserved
@@ -22,7 +22,7 @@ loop-child-preserved g c =
       omega arith,
       omega arith,
       rearranged_more w.new.self ((l.child - 1) / 2) l.child end (omega arith) (omega arith) (omega arith) w.ensures.after l.invariant.2,
-      λ o h. rises (λ x y. is_lt (g.K.Ord.cmp x y)) (ranks_by o (λ x. x)).one_way (ranks_by o (λ x. x)).chain l.heap w.new.self l.child end (omega arith) (omega arith) (omega arith) w.ensures.after (λ d. sym (c.is-less.ensures d) ∙ c.if-not-is-less.false) (l.invariant.3 o h),
+      λ o h. rises (λ x y. is_lt (g.K.Ord.cmp x y)) (ranks_by o (λ x. x)).one_way (ranks_by o (λ x. x)).chain l.heap w.new.self l.child end (omega arith) (omega arith) (omega arith) w.ensures.after (λ d. sym (c.is_less.ensures d) ∙ c.if-not-is_less.false) (l.invariant.3 o h),
     )
 
 pub returns : goal.returns

@@ -11,8 +11,8 @@ pub search-init : goal.search-init
 search-init g c =
     begins (g.G.Digraph.model c.args.graph.now) c.args.s _ _ refl refl (g.G.Digraph.proper c.args.graph.now) (omega arith)
 
-pub offset-bounds-waiting-height : goal.offset-bounds-waiting-height
-offset-bounds-waiting-height g c = omega (arith, tight c.search.invariant)
+pub offset_bounds-waiting-height : goal.offset_bounds-waiting-height
+offset_bounds-waiting-height g c = omega (arith, tight c.search.invariant)
 
 pub bounds-waiting-height : goal.bounds-waiting-height
 bounds-waiting-height g c = omega (arith, tight c.search.invariant)
@@ -32,14 +32,14 @@ room-to-put g c =
     let h = c.loop-w.invariant.0 in
     omega (arith, h.proper.small, roomier m c.args.s c.loop-w.waiting c.loop-w.height c.loop-w.marks _ c.loop-w.from c.in-Some.w h c.in-Some.ensures.1 c.if-not-marks-w.true)
 
-pub offset-bounds-waiting-height-then-not-marks-w : goal.offset-bounds-waiting-height-then-not-marks-w
-offset-bounds-waiting-height-then-not-marks-w g c = omega (arith, room-to-put g c)
+pub offset_bounds-waiting-height-then-not-marks-w : goal.offset_bounds-waiting-height-then-not-marks-w
+offset_bounds-waiting-height-then-not-marks-w g c = omega (arith, room-to-put g c)
 
 pub bounds-waiting-height-then-not-marks-w : goal.bounds-waiting-height-then-not-marks-w
 bounds-waiting-height-then-not-marks-w g c = room-to-put g c
 
-pub overflow-add-height : goal.overflow-add-height
-overflow-add-height g c = omega (arith, room-to-put g c)
+pub overflow_add-height : goal.overflow_add-height
+overflow_add-height g c = omega (arith, room-to-put g c)
 
 pub loop-w-preserved : goal.loop-w-preserved
 loop-w-preserved g c =
@@ -73,12 +73,12 @@ loop-w-preserved g c =
 pub search-preserved : goal.search-preserved
 search-preserved g c =
     leaving (g.G.Digraph.model c.args.graph.now) c.args.s c.loop-w.waiting c.loop-w.height c.loop-w.marks _ c.loop-w.from
-    c.loop-w.invariant.0 c.in-default.ensures
+    c.loop-w.invariant.0 c.in_default.ensures
 
 pub search-smaller : goal.search-smaller
 search-smaller g c =
     let m = g.G.Digraph.model c.args.graph.now in
-    omega (arith, c.loop-w.invariant.2, c.search.invariant.room, ones_le m.order c.search.marks, c.vertex-count-n.ensures)
+    omega (arith, c.loop-w.invariant.2, c.search.invariant.room, ones_le m.order c.search.marks, c.vertex_count-n.ensures)
 
 pub returns : goal.returns
 returns g c =

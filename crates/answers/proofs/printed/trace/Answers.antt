@@ -4,13 +4,13 @@ use Rattle.answers.specs.Held.{held}
 use Rattle.answers.specs.Printed.{path_text, trace_line}
 use Rattle.answers.proofs.Room.{gains_then, gains_from, gains_as, gains_to, path_none, path_some, all_gained, kept_all, trace_short}
 use Rattle.answers.proofs.printed.trace.Goals as goal
-use Rattle.answers.proofs.printed.trace.Goals.{then-is-empty, else-is-empty}
+use Rattle.answers.proofs.printed.trace.Goals.{then-is_empty, else-is_empty}
 
-middle : (c : goal.After-text-5) → Gains (held c.text-4.new.self) (path_text c.args.path.now) (held c.if-is-empty.line)
+middle : (c : goal.After-text-5) → Gains (held c.text-4.new.self) (path_text c.args.path.now) (held c.if-is_empty.line)
 middle c =
-    elim c.if-is-empty.branch [
-      | then-is-empty w ↦ gains_to (ap held w.line-is) (gains_as _ (path_none c.args.path.now (sym w.if-is-empty.ensures)) w.text-then-is-empty.ensures)
-      | else-is-empty w ↦ gains_to (ap held w.line-is) (gains_as _ (path_some c.args.path.now (sym w.if-is-empty.ensures)) w.list.ensures)
+    elim c.if-is_empty.branch [
+      | then-is_empty w ↦ gains_to (ap held w.line-is) (gains_as _ (path_none c.args.path.now (sym w.if-is_empty.ensures)) w.text-then-is_empty.ensures)
+      | else-is_empty w ↦ gains_to (ap held w.line-is) (gains_as _ (path_some c.args.path.now (sym w.if-is_empty.ensures)) w.list.ensures)
     ]
 
 pub returns : goal.returns

@@ -6,9 +6,9 @@ use Rattle.collection.proofs.machine.trace_line.Goals as goal
 pub returns : goal.returns
 returns g c =
     let x = c.args.graph.now in
-    let both = vertices (g.G.Digraph.model x).order c.args.s c.args.t 512 c.in-ok-count.ensures.answer.0 in (
+    let both = vertices (g.G.Digraph.model x).order c.args.s c.args.t 512 c.in_ok-count.ensures.answer.0 in (
       both.0,
       both.1,
-      trace_text (g.G.Digraph.model x) (g.G.Digraph.proper x) c.args.s c.args.t _ c.trace.new.out (held c.trace-2.result) c.in-ok-count.field-0 _ (omega arith) (omega arith)
-          c.in-ok-count.ensures.answer.1 c.trace-2.ensures.whole,
+      trace_text (g.G.Digraph.model x) (g.G.Digraph.proper x) c.args.s c.args.t _ c.trace.new.out (held c.trace-2.result) c.in_ok-count.field-0 _ (omega arith) (omega arith)
+          c.in_ok-count.ensures.answer.1 c.trace-2.ensures.whole,
     )

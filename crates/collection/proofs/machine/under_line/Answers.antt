@@ -6,7 +6,7 @@ use Rattle.collection.proofs.machine.under_line.Goals as goal
 pub returns : goal.returns
 returns g c =
     let x = c.args.graph.now in (
-      vertex (g.G.Digraph.model x).order c.args.s 512 c.in-ok-count.ensures.0,
-      under_text (g.G.Digraph.model x) (g.G.Digraph.proper x) c.args.s _ c.under.new.out (held c.under-2.result) c.in-ok-count.field-0 _ (omega arith)
-          c.in-ok-count.ensures.1 c.under-2.ensures.whole,
+      vertex (g.G.Digraph.model x).order c.args.s 512 c.in_ok-count.ensures.0,
+      under_text (g.G.Digraph.model x) (g.G.Digraph.proper x) c.args.s _ c.under.new.out (held c.under-2.result) c.in_ok-count.field-0 _ (omega arith)
+          c.in_ok-count.ensures.1 c.under-2.ensures.whole,
     )

@@ -9,13 +9,13 @@ returns-then-count-n g c =
     nothing m p c.args.s c.args.t c.args.out.now (omega arith) (omega arith) (omega arith)
     (too_long m p c.args.s c.args.t c.walk.path c.walk.count c.walk.u c.walk.invariant (omega arith) c.walk-test.true (omega arith))
 
-pub returns-in-default : goal.returns-in-default
-returns-in-default g c =
+pub returns-in_default : goal.returns-in_default
+returns-in_default g c =
     let m = g.G.Digraph.model c.args.graph.now in
     let p = g.G.Digraph.proper c.args.graph.now in
     nothing m p c.args.s c.args.t c.args.out.now (omega arith) (omega arith) (omega arith)
     (no_way m p c.args.s c.args.t c.walk.path c.walk.count c.walk.u c.walk.invariant c.walk-test.true
-    (λ v. leads_none m c.args.t c.reaching-marks.result c.reaching-marks.ensures p c.walk.u v c.in-default.ensures))
+    (λ v. leads_none m c.args.t c.reaching-marks.result c.reaching-marks.ensures p c.walk.u v c.in_default.ensures))
 
 pub walk-preserved : goal.walk-preserved
 walk-preserved g c =
@@ -32,5 +32,5 @@ returns g c =
     something m p c.args.s c.args.t c.args.out.now (omega arith) (omega arith) (omega arith)
     path _ (c.walk.count + 1) (omega arith) (omega (arith, c.walk.invariant.room))
     (arrived m p c.args.s c.args.t c.walk.path c.walk.count c.walk.u c.walk.invariant c.walk-test.false)
-    (copied c.args.out.now path _ (c.walk.count + 1) c.copy-from-slice.ensures.after (simp length-set (omega (arith, c.walk.invariant.room, c.walk.invariant.size, p.small))))
-    (left c.args.out.now path _ (c.walk.count + 1) c.copy-from-slice.ensures.after (simp length-set (omega (arith, c.walk.invariant.room, c.walk.invariant.size, p.small))))
+    (copied c.args.out.now path _ (c.walk.count + 1) c.copy_from_slice.ensures.after (simp length-set (omega (arith, c.walk.invariant.room, c.walk.invariant.size, p.small))))
+    (left c.args.out.now path _ (c.walk.count + 1) c.copy_from_slice.ensures.after (simp length-set (omega (arith, c.walk.invariant.room, c.walk.invariant.size, p.small))))

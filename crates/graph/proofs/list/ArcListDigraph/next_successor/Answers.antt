@@ -2,7 +2,7 @@ use Rattle.std.proofs.Common.{Some, None, ◌∙◌, arith}
 use Rattle.graph.specs.ListModel.{taken, entries, list_order}
 use Rattle.graph.proofs.Tables.{least_start, head_step, has_none, no_head, one_head, beyond_head}
 use Rattle.graph.proofs.list.ArcListDigraph.next_successor.Goals as goal
-use Rattle.graph.proofs.list.ArcListDigraph.next_successor.Goals.{in-Some, in-default}
+use Rattle.graph.proofs.list.ArcListDigraph.next_successor.Goals.{in-Some, in_default}
 
 pub returns-then-u-n : goal.returns-then-u-n
 returns-then-u-n c = λ k _. beyond_head (entries c.args.self.now) (list_order c.args.self.now) c.args.u k (omega arith)
@@ -16,9 +16,9 @@ loop-i-preserved c =
     let i = c.loop-i.i in
     let from = c.args.from in
     let best = c.loop-i.best in
-    elim c.match-head-from.branch [
+    elim c.match-head_from.branch [
       | in-Some w ↦ head_step T i _ from _ _ best (omega arith) c.loop-i.invariant (Some w.in-Some.v) w.in-Some.ensures _ (w.best-is ∙ w.nearer-best.ensures)
-      | in-default w ↦ head_step T i record { tail = 0; head = 0 } from _ _ best (omega arith) c.loop-i.invariant None w.in-default.ensures _ w.best-is
+      | in_default w ↦ head_step T i record { tail = 0; head = 0 } from _ _ best (omega arith) c.loop-i.invariant None w.in_default.ensures _ w.best-is
     ]
 
 pub returns-then-best-n : goal.returns-then-best-n

@@ -7,13 +7,13 @@ use Rattle.graph.proofs.Grows.{no_draw, drawn_added, size_added}
 use Rattle.graph.proofs.list.ArcListGrowableDigraph.add_arc.Goals as goal
 
 pub push-requires : goal.push-requires
-push-requires c = omega (arith, leb-false _ _ (sym c.if-is-full.ensures))
+push-requires c = omega (arith, leb-false _ _ (sym c.if-is_full.ensures))
 
-pub returns-then-is-full : goal.returns-then-is-full
-returns-then-is-full c =
+pub returns-then-is_full : goal.returns-then-is_full
+returns-then-is_full c =
     let x = c.args.self.now in
-    let off : has (entries x) c.args.u c.args.v ≡ false = sym c.if-has-entry.ensures in
-    let full : places x ≤ taken x = leb-true _ _ (sym c.if-is-full.ensures) in
+    let off : has (entries x) c.args.u c.args.v ≡ false = sym c.if-has_entry.ensures in
+    let full : places x ≤ taken x = leb-true _ _ (sym c.if-is_full.ensures) in
     record {
       grows = ((omega arith, omega arith, c.if-u-v.false, no_draw (entries x) (list_order x) c.args.u c.args.v off, omega arith), refl);
       limit = refl;
@@ -29,8 +29,8 @@ returns c =
     let n : ℕ = list_order x in
     let T = x.table.now in
     let T' : _ = set T m record { tail = u; head = v } in
-    let off : has (entries x) u v ≡ false = sym c.if-has-entry.ensures in
-    let free : m < places x = leb-false _ _ (sym c.if-is-full.ensures) in
+    let off : has (entries x) u v ≡ false = sym c.if-has_entry.ensures in
+    let free : m < places x = leb-false _ _ (sym c.if-is_full.ensures) in
     let table : y.table.now ≡ T' = c.push.ensures.table in
     let order : list_order y ≡ n = ap (λ k. min k 512) c.push.ensures.count in
     let len : length y.table.now ≡ length T = ap length table ∙ length-set T m _ in

@@ -4,20 +4,17 @@ use Rattle.graph.specs.Square.{at}
 use Rattle.graph.proofs.Bits.{at_set, tails_set, heads_set, apart_set, absent_room}
 use Rattle.graph.proofs.matrix.calls.BitMatrixGrowableDigraph.add_arc.Goals as goal
 
-pub invariant-of-self : goal.invariant-of-self
-invariant-of-self c =
+pub invariant_of-self : goal.invariant_of-self
+invariant_of-self c =
     let x = c.args.self.now in
     let is : (1 * 2 ^ c.args.v) % 2 ^ 64 ≡ 2 ^ c.args.v = one_shl c.args.v 64 (omega arith) in
-    let lu : c.args.u < length x.rows = omega arith in (
-      x.small,
-      (
-        tails_set x.rows c.args.u c.args.v _ lu is x.count (omega arith) (omega arith) c.if-u-v.false x.tails,
-        (
-          heads_set x.rows c.args.u c.args.v _ lu is x.count (omega arith) (omega arith) c.if-u-v.false x.heads,
-          (apart_set x.rows c.args.u c.args.v _ lu is x.count (omega arith) (omega arith) c.if-u-v.false x.apart, tt),
-        ),
-      ),
-    )
+    let lu : c.args.u < length x.rows = omega arith in
+    record {
+      small = x.small;
+      tails = tails_set x.rows c.args.u c.args.v _ lu is x.count (omega arith) (omega arith) c.if-u-v.false x.tails;
+      heads = heads_set x.rows c.args.u c.args.v _ lu is x.count (omega arith) (omega arith) c.if-u-v.false x.heads;
+      apart = apart_set x.rows c.args.u c.args.v _ lu is x.count (omega arith) (omega arith) c.if-u-v.false x.apart;
+    }
 
 pub returns : goal.returns
 returns c =
@@ -28,7 +25,7 @@ returns c =
     let lu : u < length x.rows = omega arith in
     let un : u < x.count = omega arith in
     let vn : v < x.count = omega arith in
-    let off : at x.rows u v ≡ false = sym c.if-has-bit.ensures in
+    let off : at x.rows u v ≡ false = sym c.if-has_bit.ensures in
     record {
       grows = (
         record {
