@@ -16,7 +16,7 @@ verdict_word Yes = codes "yes"
 verdict_word No = codes "no"
 
 -- the question whether s reaches t, the verdict, the number of the test that gave it or 0, and how many vertices were opened
-abbrev pub ask_line : ℕ → ℕ → Verdict → ℕ → ℕ → List ℕ
+abbrev pub ask_line : (s : ℕ) → (t : ℕ) → Verdict → (ground : ℕ) → (opened : ℕ) → List ℕ
 ask_line s t v ground opened =
     written (Ask s t) ++ (codes " answer=" ++ (verdict_word v ++ (codes " ground=" ++ (decimal ground ++ (codes " opened=" ++ (decimal opened ++ codes "\n"))))))
 

@@ -52,8 +52,8 @@ abbrev pub ExampleMeetsRules : Type 0
 ExampleMeetsRules = Proper example × Rules example example_labels example_supports
 
 -- the verdict, by the test of this number, is what the six tests say of s and t
-abbrev pub Answer : ℕ → ℕ → Verdict → ℕ → Type 0
-Answer s t v k = six s t (example_labels s) (example_labels t) ≡ Some (record { verdict = v; ground = k })
+abbrev pub Answer : (s : ℕ) → (t : ℕ) → (verdict : Verdict) → (ground : ℕ) → Type 0
+Answer s t verdict ground = six s t (example_labels s) (example_labels t) ≡ Some (record { verdict = verdict; ground = ground })
 
 -- what the six tests say of some vertices
 abbrev pub ExampleAnswers : Type 0

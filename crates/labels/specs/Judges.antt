@@ -24,9 +24,9 @@ says true v = Some v
 says false v = None
 
 -- a verdict, if any, with the number of the test that gives it
-abbrev pub on_ground : ℕ → Option Verdict → Option Decision
-on_ground k None = None
-on_ground k (Some v) = Some (record { verdict = v; ground = k })
+abbrev pub on_ground : (ground : ℕ) → Option Verdict → Option Decision
+on_ground ground None = None
+on_ground ground (Some v) = Some (record { verdict = v; ground = ground })
 
 -- some bit is set in both
 unfoldable pub meets : ℕ → ℕ → Bool

@@ -47,7 +47,7 @@ impl<A: Test, B: Test> Test for OrElse<A, B> {
 
 // What any test says, with what its laws promise of that.
 pub fn decide<T: Test>(test: &T, s: u16, t: u16, at_s: Label, at_t: Label) -> Option<Decision>
-    ensures said { result ≡ judges test.now s t at_s at_t }
+    ensures said { result ≡ T.judges test.now s t at_s at_t }
     ensures right { RightOnRules s t at_s at_t result }
     ensures number { NumberedIfAny result }
 {
