@@ -12,6 +12,10 @@ use Rattle.search.specs.Refusals.{refusal_of_two}
 use Rattle.asking.specs.Search.{Runs, between}
 use Rattle.search.specs.Under.{Distinct}
 
+-- the answer of this verdict, on this ground, with so many vertices opened
+abbrev pub answer_of : (verdict : Verdict) → (ground : ℕ) → (opened : ℕ) → Answer
+answer_of verdict ground opened = record { verdict = verdict; ground = ground; opened = opened }
+
 -- the answer and the list of opened vertices, by what is said of s: a decision is the answer, and a pass starts the search with s alone
 abbrev pub Found : Model → (ℕ → Option Decision) → ℕ → Option Decision → Answer → List ℕ → Type 0
 Found g tells s (Some d) a all = (a.verdict ≡ d.verdict) × (a.ground ≡ d.ground) × (a.opened ≡ 0)

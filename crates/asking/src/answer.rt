@@ -1,5 +1,6 @@
 // What is answered to a question.
 ghost use Rattle.std.specs.Prelude.{◌≡◌};
+ghost use Rattle.asking.specs.Questions.{answer_of};
 
 use labels::{Decision, Verdict};
 
@@ -16,7 +17,7 @@ pub struct Answer {
 impl Answer {
     // What a test decided of s and t, with nothing opened.
     pub(crate) fn told(decision: Decision) -> Answer
-        ensures { result ≡ record { verdict = decision.verdict; ground = decision.ground; opened = 0 } }
+        ensures { result ≡ answer_of decision.verdict decision.ground 0 }
     {
         Answer {
             verdict: decision.verdict,

@@ -1,5 +1,6 @@
 // Where a search stands, but for the list of opened vertices, which the caller holds.
 ghost use Rattle.std.specs.Prelude.{◌≡◌, ◌+◌, ◌-◌, ◌<◌, ◌≤◌, true, false, length, replicate, slice_index, slice_set};
+ghost use Rattle.asking.specs.Questions.{answer_of};
 
 use crate::answer::Answer;
 use labels::Verdict;
@@ -59,7 +60,7 @@ impl State {
 
     // What the search answers where it stops now.
     pub(crate) fn answer(&self, verdict: Verdict) -> Answer
-        ensures { result ≡ record { verdict = verdict; ground = 0; opened = self.now.count } }
+        ensures { result ≡ answer_of verdict 0 self.now.count }
     {
         Answer {
             verdict,
