@@ -1,4 +1,4 @@
-use Rattle.std.proofs.Common.{refl, ◌∙◌, arith}
+use Rattle.std.proofs.Common.{refl, ◌∙◌, arith, rules}
 use Rattle.std.proofs.lemmas.Result.{err_from_is_err_and}
 use Rattle.collection.proofs.Lines.{reading_starts, line_taken, line_stopped, form_fails, file_ends, file_stops, begins, ended, shorter}
 use Rattle.collection.proofs.reading.take_all.Goals as goal
@@ -51,7 +51,7 @@ pub returns-then-eq : goal.returns-then-eq
 returns-then-eq g c =
     record {
       done = file_ends _ _ _ _ _ c.loop-line.machine _ c.loop-line.number _ c.loop-line.out c.loop-line.invariant.0
-          (ended _ _ _ _ c.next_line.ensures c.in_ok-line.ensures c.in_default.is) c.if-eq.ensures;
+          (ended _ _ _ _ c.next_line.ensures c.in_ok-line.ensures c.in_default.is) (let h = c.if-eq.ensures in search rules);
       lent = c.loop-line.invariant.2;
     }
 
@@ -59,6 +59,6 @@ pub returns-else-eq : goal.returns-else-eq
 returns-else-eq g c =
     record {
       done = file_stops _ _ _ _ _ c.loop-line.machine _ c.loop-line.number _ c.loop-line.out c.loop-line.invariant.0
-          (ended _ _ _ _ c.next_line.ensures c.in_ok-line.ensures c.in_default.is) c.if-eq.ensures;
+          (ended _ _ _ _ c.next_line.ensures c.in_ok-line.ensures c.in_default.is) (let h = c.if-eq.ensures in search rules);
       lent = c.loop-line.invariant.2;
     }
