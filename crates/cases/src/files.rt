@@ -130,9 +130,9 @@ fn the_rest_of_the_output(rt: HostRuntime) {
 fn long_input(rt: HostRuntime) {
     let mut output = [0u8; 65536];
     let written = run(&[b'x'; 16385], &mut output).written;
-    assert!(rt; &output[0..written] == b"fault=8 line=0\n");
+    assert!(rt; &output[0..written] == b"fault=8 line=0\n".as_slice());
     let written = run(&[b'x'; 16384], &mut output).written;
-    assert!(rt; &output[0..written] == b"fault=9 line=1\n");
+    assert!(rt; &output[0..written] == b"fault=9 line=1\n".as_slice());
 }
 
 // The head of a collection of n vertices, and its arcs from 0 to each other one.
