@@ -251,11 +251,11 @@ mod tests {
         let mut unended = Reader::new(b"end=2\nend=2");
         assert_eq!(rt; unended.next_line()?, Some(Line::End(2)));
         assert_eq!(rt; unended.next_line(), Err(NoForm));
-        assert_eq!(rt; unended.rest, b"end=2");
+        assert_eq!(rt; unended.rest, b"end=2".as_slice());
         let mut empty = Reader::new(b"\nend=2\n");
         assert_eq!(rt; empty.next_line(), Err(NoForm));
         assert_eq!(rt; empty.next_line(), Err(NoForm));
-        assert_eq!(rt; empty.rest, b"\nend=2\n");
+        assert_eq!(rt; empty.rest, b"\nend=2\n".as_slice());
         Ok(())
     }
 }
