@@ -4,10 +4,9 @@
 COLLECTION = crates/lineage/stdin
 
 run:
-	@rt check lineage 1>&2
-	@target/bin/lineage < $(COLLECTION)
+	@cd crates/lineage && rt run < $(abspath $(COLLECTION))
 
 test:
-	@rt ci
+	@tools/gate
 
 .PHONY: run test

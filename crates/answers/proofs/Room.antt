@@ -1,7 +1,7 @@
 -- What a line in the making keeps. Assumes nothing.
 use Rattle.std.proofs.Common.{◌≡◌, ℕ, zero, suc, ◌+◌, ◌*◌, ◌^◌, ◌<◌, ◌≤◌, true, false, eqb, List, [], ◌∷◌, ◌++◌, length, get_or, take, set, codes, decimal, sym, refl, ap, ◌∙◌, subst, arith}
 use Rattle.std.proofs.lemmas.Fmt.{length-decimal-le}
-use Rattle.std.specs.List.{AllByRecursion as All}
+use Rattle.std.specs.List.{AllByRecursion}
 use Rattle.std.proofs.lemmas.List.{append-nil, append_assoc, take_all, take_more, take_more_set, take-append-le, length-take, length-take-le, length-append}
 use Rattle.answers.specs.declared.buffer.LineBuffer.{LineBuffer}
 use Rattle.answers.specs.Texts.{kept, commas, Gains}
@@ -79,7 +79,7 @@ pub all_gained : {z xs : List ℕ} → Gains [] xs z → z ≡ kept xs
 all_gained p = p.is
 
 -- a printed list of numbers below 1000 takes at most four bytes for each
-pub commas_short : (xs : List ℕ) → All (λ x. x < 1000) xs → length (commas xs) ≤ 4 * length xs
+pub commas_short : (xs : List ℕ) → AllByRecursion (λ x. x < 1000) xs → length (commas xs) ≤ 4 * length xs
 commas_short [] a = omega arith
 commas_short (x ∷ []) a = omega (arith, length-decimal-le 3 x (omega arith) (omega (arith, a.0)) (omega (arith, a.0)))
 commas_short (x ∷ y ∷ ys) a =
@@ -94,7 +94,7 @@ pub path_some : (p : List ℕ) → eqb (length p) 0 ≡ false → commas p ≡ p
 path_some [] e = absurd (eqb-false (length {A = ℕ} []) 0 e refl)
 path_some (x ∷ p) e = refl
 
-path_short : (p : List ℕ) → All (λ x. x < 1000) p → length (path_text p) ≤ 4 * length p + 4
+path_short : (p : List ℕ) → AllByRecursion (λ x. x < 1000) p → length (path_text p) ≤ 4 * length p + 4
 path_short [] a = omega arith
 path_short (x ∷ p) a = omega (arith, commas_short (x ∷ p) a)
 
@@ -125,7 +125,7 @@ fault_short f k p q =
       length-decimal-le 10 k (omega arith) (omega arith) (omega arith),
     )
 
-pub under_short : (s : ℕ) (list : List ℕ) → s < 2 ^ 16 → length list ≤ 512 → All (λ x. x < 1000) list → length (under_line s list) ≤ 2560
+pub under_short : (s : ℕ) (list : List ℕ) → s < 2 ^ 16 → length list ≤ 512 → AllByRecursion (λ x. x < 1000) list → length (under_line s list) ≤ 2560
 under_short s list p q a =
     omega (
       arith,
@@ -153,7 +153,7 @@ ask_short s t v k o p q r u =
       length-decimal-le 5 o (omega arith) (omega arith) (omega arith),
     )
 
-pub trace_short : (s t : ℕ) (path : List ℕ) → s < 2 ^ 16 → t < 2 ^ 16 → length path ≤ 512 → All (λ x. x < 1000) path → length (trace_line s t path) ≤ 2560
+pub trace_short : (s t : ℕ) (path : List ℕ) → s < 2 ^ 16 → t < 2 ^ 16 → length path ≤ 512 → AllByRecursion (λ x. x < 1000) path → length (trace_line s t path) ≤ 2560
 trace_short s t path p q few a =
     omega (
       arith,

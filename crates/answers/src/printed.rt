@@ -1,6 +1,6 @@
 // The printed lines, each with its line feed.
 ghost use Rattle.std.specs.Prelude.{◌≡◌, ◌<◌, ◌≤◌, length};
-ghost use Rattle.std.specs.List.{AllByRecursion as All};
+ghost use Rattle.std.specs.List.{AllByRecursion};
 ghost use Rattle.answers.specs.Texts.{kept};
 ghost use Rattle.answers.specs.Held.{held};
 ghost use Rattle.answers.specs.Printed.{header_line, verdict_word, ask_line, trace_line, under_line, fault_line};
@@ -54,7 +54,7 @@ pub fn ask(s: u16, t: u16, verdict: Verdict, ground: u16, opened: u16) -> LineBu
 // A path from s to t, or none where it is empty. The line is whole for every path of at most 512 numbers below 1000, so for every path of vertices.
 pub fn trace(s: u16, t: u16, path: &[u16]) -> LineBuffer
     ensures front { held result ≡ kept (trace_line s t path.now) }
-    ensures whole { length path.now ≤ 512 → All (λ x. x < 1000) path.now → held result ≡ trace_line s t path.now }
+    ensures whole { length path.now ≤ 512 → AllByRecursion (λ x. x < 1000) path.now → held result ≡ trace_line s t path.now }
 {
     let mut line = LineBuffer::new();
     line.text(b"trace=");
@@ -76,7 +76,7 @@ pub fn trace(s: u16, t: u16, path: &[u16]) -> LineBuffer
 // The vertices that s reaches. The line is whole for every list of at most 512 numbers below 1000, so for every list of vertices.
 pub fn under(s: u16, list: &[u16]) -> LineBuffer
     ensures front { held result ≡ kept (under_line s list.now) }
-    ensures whole { length list.now ≤ 512 → All (λ x. x < 1000) list.now → held result ≡ under_line s list.now }
+    ensures whole { length list.now ≤ 512 → AllByRecursion (λ x. x < 1000) list.now → held result ≡ under_line s list.now }
 {
     let mut line = LineBuffer::new();
     line.text(b"under=");

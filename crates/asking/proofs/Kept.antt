@@ -3,7 +3,7 @@ use Rattle.std.proofs.Common.{◌≡◌, ℕ, ◌-◌, ◌<◌, true, false, ◌
 use mathlib.Core.Bool.{or-false, or_assoc}
 use Rattle.std.proofs.lemmas.Bool.{eqb-true, eq-eqb, ne_eqb, or_cases, or_parts, or_from, or_left, or_right, both_ways}
 use Rattle.std.proofs.ByRecursion.{All-weaker, All-push}
-use Rattle.std.specs.List.{AllByRecursion as All}
+use Rattle.std.specs.List.{AllByRecursion}
 use Rattle.graph.specs.Model.{Model, Proper}
 use Rattle.labels.specs.declared.decision.Verdict.{Verdict}
 use Rattle.labels.specs.declared.decision.Decision.{Decision}
@@ -17,7 +17,7 @@ use Rattle.asking.proofs.Successors.{among_arcs}
 -- what holds of each successor that is left
 abbrev pub Ahead : (ℕ → Type 0) → Place → Type 0
 Ahead P between = Unit {0}
-Ahead P (at ws) = All P ws
+Ahead P (at ws) = AllByRecursion P ws
 
 -- what the lists of a search have in common
 pub record Kept (m : Model) (place : Place) (waiting put opened : List ℕ) : Type 0 where
@@ -25,8 +25,8 @@ pub record Kept (m : Model) (place : Place) (waiting put opened : List ℕ) : Ty
   pub apart : (x : ℕ) → has x waiting ≡ true → has x opened ≡ false
   pub waits : Distinct waiting
   pub once : Distinct opened
-  pub inside : All (λ v. v < m.order) waiting
-  pub within : All (λ v. v < m.order) opened
+  pub inside : AllByRecursion (λ v. v < m.order) waiting
+  pub within : AllByRecursion (λ v. v < m.order) opened
   pub ahead : Ahead (λ v. v < m.order) place
 
 module _ (m : Model) (proper : Proper m) where
@@ -95,7 +95,7 @@ module _ (m : Model) (proper : Proper m) where
 
   -- the vertices opened in the end are distinct
   pub opened_once : {tells : ℕ → Option Decision} {place : Place} {waiting put opened all : List ℕ} {v : Verdict} →
-      Runs m tells place waiting put opened v all → Kept m place waiting put opened → Distinct all × All (λ x. x < m.order) all
+      Runs m tells place waiting put opened v all → Kept m place waiting put opened → Distinct all × AllByRecursion (λ x. x < m.order) all
   opened_once ends k = (k.once, k.within)
   opened_once (opens {u} {waiting} {put} {opened} r) k = opened_once r (kept_opens u waiting put opened k)
   opened_once (finds e y) k = (k.once, k.within)

@@ -1,16 +1,16 @@
 -- The list of a vertex's successors. Assumes nothing.
 use Rattle.std.proofs.Common.{◌≡◌, ℕ, zero, suc, ◌+◌, ◌-◌, ◌<◌, ◌≤◌, true, false, eqb, [], ◌∷◌, Some, None, sym, refl, ap, ◌∙◌, ⊎_elim, arith}
 use Rattle.std.proofs.lemmas.Bool.{cond-true, cond-false, cond_both, cases_eq, eq-eqb, or_left, or_right}
-use Rattle.std.specs.List.{AllByRecursion as All}
+use Rattle.std.specs.List.{AllByRecursion}
 use Rattle.graph.specs.Model.{Model, NextSuccessor}
 use Rattle.asking.specs.Search.{successors_among, successors_from}
 use Rattle.search.specs.Under.{has}
 
-pub among_arcs : (g : Model) (u k v : ℕ) → All (λ w. g.arc u w ≡ true) (successors_among g u v k)
+pub among_arcs : (g : Model) (u k v : ℕ) → AllByRecursion (λ w. g.arc u w ≡ true) (successors_among g u v k)
 among_arcs g u zero v = tt
 among_arcs g u (suc k) v =
     let r = among_arcs g u k (suc v) in
-    cond_both (g.arc u v) _ _ (All (λ w. g.arc u w ≡ true)) (λ e. (e, r)) (λ e. r)
+    cond_both (g.arc u v) _ _ (AllByRecursion (λ w. g.arc u w ≡ true)) (λ e. (e, r)) (λ e. r)
 
 pub among_has : (g : Model) (u k v w : ℕ) → v ≤ w → w < v + k → g.arc u w ≡ true → has w (successors_among g u v k) ≡ true
 among_has g u zero v w l b e = absurd (omega arith)

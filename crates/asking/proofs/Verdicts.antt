@@ -3,7 +3,7 @@ use Rattle.std.proofs.Common.{◌≡◌, ℕ, ◌-◌, ◌<◌, Bool, true, fals
 use mathlib.Core.Logic.{∥∥₁_map}
 use Rattle.std.proofs.lemmas.Bool.{cases_eq, eqb-true, eq-eqb, ne_eqb, false≢true, or_cases, or_left, or_right, or_from, both_ways}
 use Rattle.std.proofs.ByRecursion.{All-weaker}
-use Rattle.std.specs.List.{AllByRecursion as All}
+use Rattle.std.specs.List.{AllByRecursion}
 use Rattle.graph.specs.Model.{Model, Proper}
 use Rattle.graph.specs.Paths.{Path, stay, walk, Reaches}
 use Rattle.graph.proofs.Paths.{join_paths, no_path}
@@ -34,7 +34,7 @@ data Fine (m : Model) (t : ℕ) (place : Place) (put : List ℕ) (x : ℕ) : Typ
   is_left : Left place x → Fine m t place put x
 
 record Sure (m : Model) (s t : ℕ) (place : Place) (waiting put opened : List ℕ) : Type 0 where
-  reached : All (λ w. Path m s w) waiting
+  reached : AllByRecursion (λ w. Path m s w) waiting
   looks : Ahead (λ w. Path m s w) place
   closed : (u w : ℕ) → has u opened ≡ true → m.arc u w ≡ true → Fine m t place put w
   apart : has t put ≡ false

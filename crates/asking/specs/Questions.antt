@@ -1,6 +1,6 @@
 -- What is promised of the answer to a question. Assumes nothing.
 use Rattle.std.specs.Prelude.{◌≡◌, ℕ, ◌<◌, ◌≤◌, List, [], ◌∷◌, length, take, drop, Some, None, Ok, Err, Option, Result}
-use Rattle.std.specs.List.{AllByRecursion as All}
+use Rattle.std.specs.List.{AllByRecursion}
 use Rattle.graph.specs.Model.{Model}
 use Rattle.graph.specs.Paths.{Reaches}
 use Rattle.labels.specs.declared.decision.Verdict.{Verdict}
@@ -26,7 +26,7 @@ pub record Answered (g : Model) (tells : ℕ → Option Decision) (s : ℕ) (bef
   pub found : Found g tells s (tells s) a (take a.opened after)
   pub few : a.opened ≤ g.order
   pub distinct : Distinct (take a.opened after)
-  pub vertices : All (λ v. v < g.order) (take a.opened after)
+  pub vertices : AllByRecursion (λ v. v < g.order) (take a.opened after)
   pub rest : drop a.opened after ≡ drop a.opened before
 
 -- what `ask` answers of s and t, and what the slice holds after; `tells` is what is said of each vertex and t

@@ -5,7 +5,7 @@ use Rattle.search.specs.declared.Refusal.TheVariants.{NoVertex, ShortSlice}
 use Rattle.search.specs.Refusals.{refusal, refusal_of_two}
 use Rattle.std.proofs.lemmas.List.{length-take, length-take-le}
 use Rattle.std.proofs.ByRecursion.{All-weaker}
-use Rattle.std.specs.List.{AllByRecursion as All}
+use Rattle.std.specs.List.{AllByRecursion}
 use Rattle.graph.specs.Model.{Model, Proper}
 use Rattle.search.specs.Under.{UnderWritten, Under as Reached}
 use Rattle.search.specs.Trace.{TraceWritten}
@@ -36,30 +36,30 @@ vertices n s t room e =
 
 -- the first n entries that `under` wrote, of which k is another name, are printed whole
 pub under_text : (g : Model) → Proper g → (s : ℕ) (before list text : List ℕ) (n k : ℕ) → k ≡ n → UnderWritten g s before list n →
-    (length (take k list) ≤ 512 → All (λ x. x < 1000) (take k list) → text ≡ under_line s (take k list)) →
+    (length (take k list) ≤ 512 → AllByRecursion (λ x. x < 1000) (take k list) → text ≡ under_line s (take k list)) →
     (reached : List ℕ) × Reached g s reached × (text ≡ under_line s reached)
 under_text g p s before list text n k e done prints =
     let small = p.small in
     let few = done.few in
-    let within : All (λ x. x < 1000) (take n list) = All-weaker (λ x. x < g.order) (λ x. x < 1000) (λ x l. omega arith) (take n list) done.below in (
+    let within : AllByRecursion (λ x. x < 1000) (take n list) = All-weaker (λ x. x < g.order) (λ x. x < 1000) (λ x l. omega arith) (take n list) done.below in (
       take k list,
       subst (λ j. Reached g s (take j list)) (sym e) done.lists,
-      prints (omega (arith, length-take k list)) (subst (λ j. All (λ x. x < 1000) (take j list)) (sym e) within),
+      prints (omega (arith, length-take k list)) (subst (λ j. AllByRecursion (λ x. x < 1000) (take j list)) (sym e) within),
     )
 
 -- the same of the first n entries that `trace` wrote
 pub trace_text : (g : Model) → Proper g → (s t : ℕ) (before list text : List ℕ) (n k : ℕ) → k ≡ n → 512 ≤ length list → TraceWritten g s t before list n →
-    (length (take k list) ≤ 512 → All (λ x. x < 1000) (take k list) → text ≡ trace_line s t (take k list)) →
+    (length (take k list) ≤ 512 → AllByRecursion (λ x. x < 1000) (take k list) → text ≡ trace_line s t (take k list)) →
     (path : List ℕ) × TraceOrNone g s t path × (text ≡ trace_line s t path)
 trace_text g p s t before list text n k e long done prints =
     let small = p.small in
     let few = done.few in
     let len = length-take-le n list (omega arith) in
-    let within : All (λ x. x < 1000) (take n list) = All-weaker (λ x. x < g.order) (λ x. x < 1000) (λ x l. omega arith) (take n list) done.below in
+    let within : AllByRecursion (λ x. x < 1000) (take n list) = All-weaker (λ x. x < g.order) (λ x. x < 1000) (λ x l. omega arith) (take n list) done.below in
     let found : TraceOrNone g s t (take n list) = record { found = λ l. done.found (omega arith); none = λ z. done.none (omega arith) } in (
       take k list,
       subst (λ j. TraceOrNone g s t (take j list)) (sym e) found,
-      prints (omega (arith, length-take k list)) (subst (λ j. All (λ x. x < 1000) (take j list)) (sym e) within),
+      prints (omega (arith, length-take k list)) (subst (λ j. AllByRecursion (λ x. x < 1000) (take j list)) (sym e) within),
     )
 
 -- what the equality says is right, and it says something of the goal

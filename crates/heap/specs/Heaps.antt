@@ -1,7 +1,7 @@
 -- A binary heap in the first places of a list, and what putting and taking leave. Assumes nothing.
 use Rattle.std.specs.Prelude.{◌≡◌, ℕ, ◌+◌, ◌-◌, ◌/◌, ◌<◌, Bool, false, ◌⊎◌, List, [], ◌∷◌, ◌++◌, take, drop, slice_index_or}
 use Rattle.std.specs.List.Sorted.{IsPermutation}
-use Rattle.std.specs.List.{AllByRecursion as All}
+use Rattle.std.specs.List.{AllByRecursion}
 
 -- the place above k, where k is not the first: its children are at p * 2 + 1 and p * 2 + 2
 abbrev pub parent : ℕ → ℕ
@@ -39,7 +39,7 @@ pub record Popped {X : Type 0} (under : X → X → Bool) (xs ys : List X) (n : 
   pub keys : IsPermutation (take n xs) (take (n - 1) ys ++ x ∷ [])
   pub rest : drop n ys ≡ drop n xs
   pub heaped : Heaped under xs n → Heaped under ys (n - 1)
-  pub greatest : Heaped under xs n → All (λ y. under x y ≡ false) (take n xs)
+  pub greatest : Heaped under xs n → AllByRecursion (λ y. under x y ≡ false) (take n xs)
 
 -- there is no key to take: the heap is empty, or the slice has not so many places
 abbrev pub NoHeap : ℕ → ℕ → Type 0

@@ -1,6 +1,6 @@
 -- Where each vertex that is left has a predecessor that is left, there is a cycle. Assumes nothing.
 use Rattle.std.proofs.Common.{◌≡◌, ℕ, zero, suc, ◌+◌, ◌<◌, Bool, true, false, eqb, List, [], ◌∷◌, length, sym, refl, subst, ⊎_elim, arith}
-use Rattle.std.specs.List.{AllByRecursion as All}
+use Rattle.std.specs.List.{AllByRecursion}
 use Rattle.std.proofs.lemmas.Bool.{cases_Bool, or_cases, eqb-true, false≢true}
 use Rattle.graph.specs.Model.{Model, Proper}
 use Rattle.graph.specs.Paths.{Path, stay, walk, Cycle}
@@ -11,7 +11,7 @@ module _ (g : Model) (proper : Proper g) (left : ℕ → Bool)
     (back : (v : ℕ) → v < g.order → left v ≡ true → (u : ℕ) × (g.arc u v ≡ true) × (left u ≡ true)) where
   -- back along the arcs, until a vertex comes again
   goes_back : (fuel v : ℕ) (trail : List ℕ) → fuel + length (v ∷ trail) ≡ g.order + 1 → left v ≡ true → Distinct (v ∷ trail) →
-      All (λ x. x < g.order) (v ∷ trail) → ((x : ℕ) → has x (v ∷ trail) ≡ true → Path g v x) → Cycle g
+      AllByRecursion (λ x. x < g.order) (v ∷ trail) → ((x : ℕ) → has x (v ∷ trail) ≡ true → Path g v x) → Cycle g
   goes_back zero v trail len l d a p = absurd (omega (arith, pigeonhole g.order (v ∷ trail) d a))
   goes_back (suc fuel) v trail len l d a p =
       let s = back v a.0 l in

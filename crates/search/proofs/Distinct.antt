@@ -2,7 +2,7 @@
 use Rattle.std.proofs.Common.{◌≡◌, ℕ, ◌<◌, ◌≤◌, Bool, true, false, eqb, List, [], ◌∷◌, length, get_or, set, replicate, ◌∙◌, arith, get_or-set_other}
 use Rattle.std.proofs.lemmas.Bool.{or_parts, eqb-false}
 use Rattle.std.proofs.lemmas.List.{length-replicate, length-set}
-use Rattle.std.specs.List.{AllByRecursion as All}
+use Rattle.std.specs.List.{AllByRecursion}
 use Rattle.search.specs.Under.{has, Distinct}
 use Rattle.search.proofs.Marks.{ones, ones_le, ones_set, ones_none, no_mark}
 
@@ -21,7 +21,7 @@ unseen n x (y ∷ xs) h =
     let b = or_parts (eqb x y) (has x xs) h in
     get_or-set_other (seen n xs) y x true false (eqb-false x y b.0) ∙ unseen n x xs b.1
 
-counted : (n : ℕ) (xs : List ℕ) → Distinct xs → All (λ x. x < n) xs → ones n (seen n xs) ≡ length xs
+counted : (n : ℕ) (xs : List ℕ) → Distinct xs → AllByRecursion (λ x. x < n) xs → ones n (seen n xs) ≡ length xs
 counted n [] d a = ones_none n n
 counted n (x ∷ xs) d a =
     let e = seen_size n xs in
@@ -29,5 +29,5 @@ counted n (x ∷ xs) d a =
     omega (arith, ones_set n x (seen n xs) a.0 l (unseen n x xs d.0), counted n xs d.1 a.1)
 
 -- of the numbers below n there are no more than n
-pub pigeonhole : (n : ℕ) (xs : List ℕ) → Distinct xs → All (λ x. x < n) xs → length xs ≤ n
+pub pigeonhole : (n : ℕ) (xs : List ℕ) → Distinct xs → AllByRecursion (λ x. x < n) xs → length xs ≤ n
 pigeonhole n xs d a = omega (arith, counted n xs d a, ones_le n (seen n xs))

@@ -5,7 +5,7 @@ use mathlib.Core.Logic.{∥∥₁_elim}
 use Rattle.std.proofs.lemmas.Bool.{cases_eq, eq-eqb, or_left, or_right, cond-false, lt-leb, le-ltb}
 use Rattle.std.proofs.lemmas.List.{take_more_set, drop-set-lt, drop-drop}
 use Rattle.std.proofs.ByRecursion.{All-weaker, All-push}
-use Rattle.std.specs.List.{AllByRecursion as All}
+use Rattle.std.specs.List.{AllByRecursion}
 use Rattle.graph.specs.Model.{Model, Proper}
 use Rattle.graph.specs.Paths.{Reaches}
 use Rattle.search.specs.Refusals.{refusal}
@@ -25,7 +25,7 @@ not_refused n s room b r = cond-false (leb n s) _ _ (lt-leb n s b) ∙ cond-fals
 pub record Gathers (m : Model) (s v : ℕ) (before out : List ℕ) (count : ℕ) : Type 0 where
   pub few : count ≤ v
   pub ascending : Ascending (take count out)
-  pub only : All (λ x. (x < v) × Reaches m s x) (take count out)
+  pub only : AllByRecursion (λ x. (x < v) × Reaches m s x) (take count out)
   pub all : (x : ℕ) → x < v → Reaches m s x → has x (take count out) ≡ true
   pub rest : drop count out ≡ drop count before
 
@@ -38,7 +38,7 @@ module _ (m : Model) (s : ℕ) (before : List ℕ) where
         record {
           few = omega (arith, h.few);
           ascending = subst Ascending (sym e) (ascending_push (take count out) v h.ascending (All-weaker _ (λ x. x < v) (λ x i. i.0) (take count out) h.only));
-          only = subst (All (λ x. (x < v + 1) × Reaches m s x)) (sym e)
+          only = subst (AllByRecursion (λ x. (x < v + 1) × Reaches m s x)) (sym e)
               (All-push (λ x. (x < v + 1) × Reaches m s x) (take count out) v
               (All-weaker _ (λ x. (x < v + 1) × Reaches m s x) (λ x i. (omega (arith, i.0), i.1)) (take count out) h.only) (omega arith, r));
           all = λ x i q. ap (has x) e ∙ has_push x v (take count out) ∙

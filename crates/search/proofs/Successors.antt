@@ -1,17 +1,17 @@
 -- The numbers that pass a test, as a list, and the list of a vertex's successors. Assumes nothing.
 use Rattle.std.proofs.Common.{◌≡◌, ℕ, zero, suc, ◌+◌, ◌-◌, ◌<◌, ◌≤◌, Bool, true, false, eqb, [], ◌∷◌, Some, None, sym, refl, ap, ◌∙◌, ⊎_elim, arith}
 use Rattle.std.proofs.lemmas.Bool.{cond-true, cond-false, cond_both, cases_eq, eq-eqb, or_left, or_right}
-use Rattle.std.specs.List.{AllByRecursion as All}
+use Rattle.std.specs.List.{AllByRecursion}
 use Rattle.graph.specs.Model.{Model, NextSuccessor}
 use Rattle.search.specs.Under.{has}
 use Rattle.search.specs.Successors.{passing, successors_from}
 
 -- each entry passes
-pub passing_pass : (p : ℕ → Bool) (k v : ℕ) → All (λ w. p w ≡ true) (passing p v k)
+pub passing_pass : (p : ℕ → Bool) (k v : ℕ) → AllByRecursion (λ w. p w ≡ true) (passing p v k)
 passing_pass p zero v = tt
 passing_pass p (suc k) v =
     let r = passing_pass p k (suc v) in
-    cond_both (p v) _ _ (All (λ w. p w ≡ true)) (λ e. (e, r)) (λ e. r)
+    cond_both (p v) _ _ (AllByRecursion (λ w. p w ≡ true)) (λ e. (e, r)) (λ e. r)
 
 -- each of the numbers that passes is an entry
 pub passing_has : (p : ℕ → Bool) (k v w : ℕ) → v ≤ w → w < v + k → p w ≡ true → has w (passing p v k) ≡ true

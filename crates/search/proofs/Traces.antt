@@ -3,7 +3,7 @@ use Rattle.std.proofs.Common.{◌≡◌, ℕ, zero, suc, ◌<◌, ◌≤◌, tru
 use mathlib.Core.HLevel.{⊥_prop}
 use mathlib.Core.Logic.{∥∥₁_elim}
 use Rattle.std.proofs.lemmas.Bool.{cases_eq, cases_order, cases_Bool, both_ways, false≢true, eqb-true, or_cases}
-use Rattle.std.specs.List.{AllByRecursion as All}
+use Rattle.std.specs.List.{AllByRecursion}
 use Rattle.graph.specs.Model.{Model, Proper}
 use Rattle.graph.specs.Paths.{Path, stay, walk, Reaches, Cycle}
 use Rattle.search.specs.Under.{has}
@@ -54,7 +54,7 @@ trace_distinct g t (goes {u} {v} {rest} ne l r) = (
   trace_distinct g t r,
 )
 
-pub trace_below : (g : Model) (t : ℕ) → Proper g → {s : ℕ} {p : List ℕ} → Trace g t s p → s < g.order → All (λ x. x < g.order) p
+pub trace_below : (g : Model) (t : ℕ) → Proper g → {s : ℕ} {p : List ℕ} → Trace g t s p → s < g.order → AllByRecursion (λ x. x < g.order) p
 trace_below g t k (arrives e) b = (b, tt)
 trace_below g t k (goes {u} {v} ne l r) b = (b, trace_below g t k r (k.within u v l.joined).1)
 
@@ -89,7 +89,7 @@ path_distinct g n (walk {u} {v} e p) = (
   path_distinct g n p,
 )
 
-vertices_below : (g : Model) → Proper g → {a b : ℕ} (p : Path g a b) → a < g.order → All (λ x. x < g.order) (vertices p)
+vertices_below : (g : Model) → Proper g → {a b : ℕ} (p : Path g a b) → a < g.order → AllByRecursion (λ x. x < g.order) (vertices p)
 vertices_below g k stay b = (b, tt)
 vertices_below g k (walk {u} {v} e p) b = (b, vertices_below g k p (k.within u v e).1)
 

@@ -1,6 +1,6 @@
 -- The path from one vertex to another by the lowest successors that reach the end. Assumes nothing.
 use Rattle.std.specs.Prelude.{◌≡◌, ℕ, ◌<◌, ◌≤◌, Bool, true, false, List, [], ◌∷◌, length, take, drop, Some, None, Ok, Err, Option, Result, ◌≢◌, slice_index_or}
-use Rattle.std.specs.List.{AllByRecursion as All}
+use Rattle.std.specs.List.{AllByRecursion}
 use Rattle.graph.specs.Model.{Model, Proper}
 use Rattle.graph.specs.Paths.{Reaches, Cycle}
 use Rattle.search.specs.declared.Refusal.{Refusal}
@@ -28,7 +28,7 @@ pub record TraceWritten (g : Model) (s t : ℕ) (before after : List ℕ) (count
   pub found : 0 < count → Trace g t s (take count after)
   pub none : count ≡ 0 → (list : List ℕ) → Trace g t s list → ⊥
   pub few : count ≤ g.order
-  pub below : All (λ v. v < g.order) (take count after)
+  pub below : AllByRecursion (λ v. v < g.order) (take count after)
   pub rest : drop count after ≡ drop count before
 
 -- what `trace` answers of s and t, and what the slice holds after

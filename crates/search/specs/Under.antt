@@ -1,6 +1,6 @@
 -- The vertices that a vertex reaches, as a list. Assumes nothing.
 use Rattle.std.specs.Prelude.{◌≡◌, ℕ, ◌<◌, ◌≤◌, Bool, true, false, ◌||◌, List, [], ◌∷◌, length, take, drop, Some, None, Ok, Err, Result, ◌==◌, slice_index_or}
-use Rattle.std.specs.List.{AllByRecursion as All}
+use Rattle.std.specs.List.{AllByRecursion}
 use Rattle.graph.specs.Model.{Model}
 use Rattle.graph.specs.Paths.{Reaches}
 use Rattle.search.specs.declared.Refusal.{Refusal}
@@ -23,19 +23,19 @@ Distinct (x ∷ xs) = (has x xs ≡ false) × Distinct xs
 -- each entry is below all that follow it
 abbrev pub Ascending : List ℕ → Type 0
 Ascending [] = Unit {0}
-Ascending (x ∷ xs) = All (λ y. x < y) xs × Ascending xs
+Ascending (x ∷ xs) = AllByRecursion (λ y. x < y) xs × Ascending xs
 
 -- the list has the vertices that s reaches, itself too, and no others, ascending
 pub record Under (g : Model) (s : ℕ) (list : List ℕ) : Type 0 where
   pub ascending : Ascending list
-  pub only : All (λ v. Reaches g s v) list
+  pub only : AllByRecursion (λ v. Reaches g s v) list
   pub all : (v : ℕ) → Reaches g s v → has v list ≡ true
 
 -- the first `count` entries of the slice are the list, and the others are as before
 pub record UnderWritten (g : Model) (s : ℕ) (before after : List ℕ) (count : ℕ) : Type 0 where
   pub lists : Under g s (take count after)
   pub few : count ≤ g.order
-  pub below : All (λ v. v < g.order) (take count after)
+  pub below : AllByRecursion (λ v. v < g.order) (take count after)
   pub rest : drop count after ≡ drop count before
 
 -- what `under` answers of s, and what the slice holds after
