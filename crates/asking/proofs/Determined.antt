@@ -62,11 +62,11 @@ same_written : (before after after' : List ℕ) (c d : ℕ) → c ≡ d → take
 same_written before after after' c d q e f h =
     sym (take-append-drop c after) ∙ ap (λ x. x ++ drop c after) e ∙ ap (λ x. take d after' ++ x) (f ∙ ap (λ x. drop x before) q ∙ sym h) ∙ take-append-drop d after'
 
-pub one_answer : (g : Model) (tells : ℕ → Option Decision) (s t : ℕ) (before after after' : List ℕ) (r r' : Result Answer Refusal) →
+pub one_answer_lem : (g : Model) (tells : ℕ → Option Decision) (s t : ℕ) (before after after' : List ℕ) (r r' : Result Answer Refusal) →
     Asked g tells s t before after r → Asked g tells s t before after' r' → (r ≡ r') × (after ≡ after')
-one_answer g tells s t before after after' (Ok a) (Ok b) h i =
+one_answer_lem g tells s t before after after' (Ok a) (Ok b) h i =
     let q = one_found g tells s (tells s) a b after after' h.1.found i.1.found in
     (ap Ok q.0, same_written before after after' a.opened b.opened (ap (λ x. x.opened) q.0) q.1 h.1.rest i.1.rest)
-one_answer g tells s t before after after' (Ok a) (Err d) h i = clash _ d h.0 i.0
-one_answer g tells s t before after after' (Err c) (Ok b) h i = clash _ c i.0 h.0
-one_answer g tells s t before after after' (Err c) (Err d) h i = (ap Err (same_refusal _ c d h.0 i.0), h.1 ∙ sym i.1)
+one_answer_lem g tells s t before after after' (Ok a) (Err d) h i = clash _ d h.0 i.0
+one_answer_lem g tells s t before after after' (Err c) (Ok b) h i = clash _ c i.0 h.0
+one_answer_lem g tells s t before after after' (Err c) (Err d) h i = (ap Err (same_refusal _ c d h.0 i.0), h.1 ∙ sym i.1)

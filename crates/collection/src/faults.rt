@@ -86,7 +86,7 @@ impl<E> From<At<E>> for FileFault
 where
     Fault: From<E>,
 {
-    ghost from_gives = { λ e r. bound-1.from_gives e.error r.fault × (r.line ≡ e.line) };
+    ghost from_gives = { λ e r. ⟦<Fault as From<E>>⟧.from_gives e.error r.fault × (r.line ≡ e.line) };
 
     fn from(e: At<E>) -> FileFault {
         FileFault {

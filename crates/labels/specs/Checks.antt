@@ -1,5 +1,5 @@
 -- The seven rules as tests that compute. Assumes nothing.
-use Rattle.std.specs.Prelude.{ℕ, ◌+◌, Bool, ◌&&◌, ◌||◌, ltb, leb, ◌==◌, nat_eq, nat_le, nat_lt}
+use Rattle.std.specs.Prelude.{ℕ, ◌+◌, Bool, ◌&&◌, ◌||◌, ◌==◌, nat_eq, nat_le, nat_lt}
 use Rattle.std.specs.Bool.{beq}
 use Rattle.graph.specs.Model.{Model}
 use Rattle.graph.specs.Square.{flagged}
@@ -15,11 +15,11 @@ extreme upto n among value base m =
 
 -- m is the greatest of the base and of the values of those below n that are among
 abbrev pub greatest : ℕ → (ℕ → Bool) → (ℕ → ℕ) → ℕ → ℕ → Bool
-greatest = extreme leb
+greatest = extreme nat_le
 
 -- m is the least of the base and of the values of those below n that are among
 abbrev pub least : ℕ → (ℕ → Bool) → (ℕ → ℕ) → ℕ → ℕ → Bool
-least = extreme (λ a b. leb b a)
+least = extreme (λ a b. nat_le b a)
 
 -- v has bit i of `mask` exactly when it is support i or one below n that is among has it
 unfoldable pub bit_exact : ℕ → Supports → (ℕ → Bool) → (ℕ → ℕ) → ℕ → ℕ → Bool
@@ -34,7 +34,7 @@ module _ (g : Model) (labels : Labels) (supports : Supports) (v : ℕ) where
 
   -- rule 2
   unfoldable pub rises : Bool
-  rises = all_below 4 (λ r. all_below g.order (λ w. g.arc v w implies ltb (position labels r v) (position labels r w)))
+  rises = all_below 4 (λ r. all_below g.order (λ w. g.arc v w implies nat_lt (position labels r v) (position labels r w)))
 
   -- rule 3 in a forward row
   unfoldable pub sure_forward : ℕ → Bool

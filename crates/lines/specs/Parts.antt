@@ -1,5 +1,5 @@
 -- The parts of a line: its keyword, and the numbers that follow. Assumes nothing.
-use Rattle.std.specs.Prelude.{◌≡◌, ℕ, ◌^◌, ◌<◌, List, ◌∷◌, ◌++◌, length, codes, decimal, ◌≢◌, slice_index, slice_index_or}
+use Rattle.std.specs.Prelude.{◌≡◌, ℕ, ◌^◌, ◌<◌, List, ◌∷◌, ◌++◌, length, codes, decimal, ◌≢◌, slice_index}
 use Rattle.lines.specs.declared.Kind.{Kind}
 use Rattle.lines.specs.Forms.{decimal_pair}
 
@@ -28,7 +28,7 @@ Lacks bytes b = (k : ℕ) → k < length bytes → slice_index bytes k ≢ b
 -- i is the first place of b in bytes
 pub record FirstPlace (bytes : List ℕ) (b i : ℕ) : Type 0 where
   pub within : i < length bytes
-  pub here : slice_index_or bytes i 0 ≡ b
+  pub here : slice_index bytes i ≡ b
   pub before : (k : ℕ) → k < i → slice_index bytes k ≢ b
 
 -- front and back are what stands before and after the first b in bytes
