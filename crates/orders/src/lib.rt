@@ -1,4 +1,4 @@
-// The depth-first order of a graph's vertices.
+// Orders of the vertices of a graph, for building labels: so far what an order is, in specs, and the refusal of a graph with a cycle.
 #![tactic(auto)]
 
 ghost use Rattle.std.specs.Prelude.{◌≡◌};
