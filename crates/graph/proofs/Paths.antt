@@ -1,6 +1,6 @@
 -- Paths joined, read backwards, and what holds along them. Assumes nothing.
 use Rattle.std.proofs.Common.{◌≡◌, ℕ, ◌<◌, true}
-use mathlib.Core.Logic.{∥∥₁_elim}
+use Rattle.std.proofs.lemmas.Grind.{not_there}
 use Rattle.graph.specs.Model.{Model, Proper, reversed}
 use Rattle.graph.specs.Paths.{Path, stay, walk, Reaches}
 
@@ -23,9 +23,6 @@ along_path g R self join over (walk {u} {v} {w} a p) = join u v w (over u v a) (
 pub path_inside : (g : Model) → Proper g → {s t : ℕ} → Path g s t → s < g.order → t < g.order
 path_inside g proper p = along_path g (λ u v. u < g.order → v < g.order) (λ v h. h) (λ u v w f k h. k (f h)) (λ u v a h. (proper.within u v a).1) p
 
-⊥_is_prop : IsProp ⊥
-⊥_is_prop x y = elim x [ ]
-
 -- where there is no path, s does not reach t
 pub no_path : {g : Model} {s t : ℕ} → (Path g s t → ⊥) → Reaches g s t → ⊥
-no_path f r = ∥∥₁_elim r ⊥_is_prop f
+no_path f r = not_there r f

@@ -2,6 +2,7 @@ pub mod Model
 pub mod Paths
 pub mod Refusals
 pub mod Growth
+pub mod Turns
 pub mod Table
 pub mod ListModel
 pub mod Square

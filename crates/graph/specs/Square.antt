@@ -1,9 +1,14 @@
 -- Rows of bits that are the arcs of a graph. Assumes nothing.
-use Rattle.std.specs.Prelude.{◌≡◌, ℕ, ◌/◌, ◌%◌, ◌^◌, ◌<◌, Bool, true, List, ◌==◌, ◌≢◌, slice_index}
+use Rattle.std.specs.Prelude.{◌≡◌, ℕ, ◌/◌, ◌%◌, ◌^◌, ◌<◌, ◌≤◌, Bool, true, false, List, Some, None, Option, ◌==◌, ◌≢◌, slice_index}
 
 -- bit k of n is set
 abbrev pub flagged : ℕ → ℕ → Bool
 flagged n k = n / 2 ^ k % 2 == 1
+
+-- r is the lowest number from `from` up to just below `end` that passes, or None where none does
+abbrev pub LowestPassing : (ℕ → Bool) → ℕ → ℕ → Option ℕ → Type 0
+LowestPassing passes from end None = (k : ℕ) → from ≤ k → k < end → passes k ≡ false
+LowestPassing passes from end (Some v) = (from ≤ v) × (v < end) × (passes v ≡ true) × ((k : ℕ) → from ≤ k → k < v → passes k ≡ false)
 
 -- bit v of row u is set
 abbrev pub at : List ℕ → ℕ → ℕ → Bool

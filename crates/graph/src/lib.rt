@@ -4,12 +4,14 @@
 ghost use Rattle.std.specs.Prelude.{◌≡◌, ℕ, ◌≤◌};
 ghost use Rattle.graph.specs.Model.{Model, Proper, NextSuccessor, reversed as mirrored};
 ghost use Rattle.graph.specs.Growth.{VertexAdded, ArcAdded};
+ghost use Rattle.graph.specs.declared.TheConstants.{MOST_VERTICES};
 
 mod growing;
 mod list;
 mod matrix;
 mod refusal;
 mod reversed;
+mod successors;
 
 pub use growing::add_vertices;
 pub use list::{Arc, ArcList};
@@ -17,23 +19,21 @@ pub use matrix::BitMatrix;
 pub use matrix::calls::limit_only_when_complete;
 pub use refusal::Refusal;
 pub use reversed::{Reversed, next_successor_reversed_twice};
+pub use successors::Successors;
+
+// The most vertices that a graph of any type can have.
+pub const MOST_VERTICES: usize = 512;
 
 // A directed graph that can be read.
 pub trait Digraph {
-    // The most vertices that a graph of this type can have.
+    // The most vertices that a graph of this type can have. Clauses say it as `most`, and code by `vertex_limit`: no clause yet says
+    // the value of a constant in an impl with a lifetime.
     const LIMIT: u16;
+
+    ghost most: { ℕ };
 
     // The graph that a value stands for.
     ghost model: { Self → Model };
-
-    // The value of LIMIT, for contracts.
-    ghost most: { ℕ };
-
-    ghost modest: { most ≤ 512 };
-
-    ghost bounded: { (x : Self) → (model x).order ≤ most };
-
-    ghost proper: { (x : Self) → Proper (model x) };
 
     // LIMIT.
     fn vertex_limit() -> u16
@@ -50,9 +50,16 @@ pub trait Digraph {
     // The lowest u, not below `from`, with an arc u→v; none too where v is no vertex.
     fn next_predecessor(&self, v: u16, from: u16) -> Option<u16>
         ensures { NextSuccessor (mirrored (model self.now)) v from result };
+
+    // The laws of every graph type.
+    ghost modest: { most ≤ MOST_VERTICES };
+
+    ghost bounded: { (x : Self) → (model x).order ≤ most };
+
+    ghost proper: { (x : Self) → Proper (model x) };
 }
 
-// A directed graph that can be read and grown.
+// A directed graph that can be read and grown. That the arc limit stays is a clause of each call: it is a fact of two values, before and after.
 pub trait GrowableDigraph: Digraph {
     // The most arcs that the graph can have: fixed when it is made.
     ghost arc_limit: { Self → ℕ };

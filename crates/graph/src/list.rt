@@ -1,37 +1,46 @@
 // A graph as a table of arcs that the caller lends. No invariant is kept: the fields mean a graph whatever they hold.
-ghost use Rattle.std.specs.Prelude.{◌≡◌, ◌+◌, ◌<◌, ◌≤◌, min, length, nat_le, slice_set};
+ghost use Rattle.std.specs.Prelude.{◌≡◌, ◌+◌, ◌<◌, ◌≤◌, ◌++◌, map, take, drop, min, length, nat_le, slice_set};
 ghost use Rattle.std.proofs.Common.{lit≤};
-ghost use Rattle.graph.specs.Model.{Empty};
+ghost use Rattle.graph.specs.Model.{Empty, NextSuccessor};
 ghost use Rattle.graph.specs.Facts.{list_proper, list_bounded};
 ghost use Rattle.graph.specs.ListModel.{list_model, list_arc_limit, places, taken as places_taken, list_order, entries};
-ghost use Rattle.graph.specs.Table.{has, head_from, tail_to, nearer_to};
+ghost use Rattle.graph.specs.Table.{has, head_from, nearer_to, swept, turned, along};
 
 use crate::{Digraph, GrowableDigraph, Refusal};
 
+// Which way arcs are read. (One enum of two cases, read at one place; a closure for it would be written out at both calls.)
 #[derive(Clone, Copy)]
+enum Direction {
+    Forward,
+    Backward,
+}
+
+#[derive(Clone, Copy, PartialEq, Eq, Debug)]
 pub struct Arc {
     pub tail: u16,
     pub head: u16,
 }
 
 impl Arc {
+    // The arc as it is read that way.
+    fn turned(self, direction: Direction) -> Arc
+        ensures { result ≡ turned direction self }
+    {
+        match direction {
+            Direction::Forward => self,
+            Direction::Backward => Arc {
+                tail: self.head,
+                head: self.tail,
+            },
+        }
+    }
+
     // The head of an arc from u to another vertex.
     fn head_from(self, u: u16) -> Option<u16>
         ensures { result ≡ head_from u self }
     {
         if self.tail == u && self.head != u {
             Some(self.head)
-        } else {
-            None
-        }
-    }
-
-    // The tail of an arc from another vertex to v.
-    fn tail_to(self, v: u16) -> Option<u16>
-        ensures { result ≡ tail_to v self }
-    {
-        if self.head == v && self.tail != v {
-            Some(self.tail)
         } else {
             None
         }
@@ -45,6 +54,19 @@ fn nearer(v: u16, from: u16, best: u16) -> u16
     if from <= v && v < best { v } else { best }
 }
 
+// Blots out each of the first `taken` entries that names the vertex n: what stands there draws no arc.
+fn blot_out(table: &mut [Arc], taken: usize, n: u16)
+    requires { taken ≤ length table.old }
+    ensures { table.new ≡ map (swept n) (take taken table.old) ++ drop taken table.old }
+{
+    for arc in &mut table[..taken] {
+        if arc.tail == n || arc.head == n {
+            *arc = Arc { tail: 0, head: 0 };
+        }
+    }
+}
+
+// The table and its length stand side by side, since it is the caller's: a vector would own its places.
 #[derive(Drop)]
 pub struct ArcList<'a> {
     // The arcs are the first `used` entries.
@@ -55,7 +77,7 @@ pub struct ArcList<'a> {
 }
 
 // The most places of a table that are used.
-const MOST_ARCS: u16 = 4096;
+const MOST_ARCS: usize = 4096;
 
 impl<'a> ArcList<'a> {
     // A graph with no vertex, whose arc limit is the table's length, or 4096 if that is less.
@@ -71,22 +93,24 @@ impl<'a> ArcList<'a> {
     }
 
     // The number of places that may hold an arc.
-    fn places(&self) -> u16
+    fn places(&self) -> usize
         ensures { result ≡ places self.now }
     {
-        let len = self.table.len();
-        if len < MOST_ARCS as usize {
-            len as u16
-        } else {
-            MOST_ARCS
-        }
+        self.table.len().min(MOST_ARCS)
     }
 
     // The number of places that are taken.
-    fn taken(&self) -> u16
+    fn taken(&self) -> usize
         ensures { result ≡ places_taken self.now }
     {
-        self.used.min(self.places())
+        (self.used as usize).min(self.places())
+    }
+
+    // The arcs of the places that are taken.
+    fn entries(&self) -> &[Arc]
+        ensures { result.now ≡ entries self.now }
+    {
+        &self.table[..self.taken()]
     }
 
     fn is_full(&self) -> bool
@@ -103,8 +127,8 @@ impl<'a> ArcList<'a> {
         ensures count { self.new.count ≡ self.old.count }
     {
         let taken = self.taken();
-        self.table[taken as usize] = arc;
-        self.used = taken + 1;
+        self.table[taken] = arc;
+        self.used = taken as u16 + 1;
     }
 
     fn order(&self) -> u16
@@ -117,23 +141,34 @@ impl<'a> ArcList<'a> {
     fn has_entry(&self, u: u16, v: u16) -> bool
         ensures { result ≡ has (entries self.now) u v }
     {
-        let taken = self.taken();
-        for i in 0..taken {
-            let arc = self.table[i as usize];
-            if arc.tail == u && arc.head == v {
-                return true;
+        self.entries().contains(&Arc { tail: u, head: v })
+    }
+
+    // The lowest v, not below `from`, with an arc u→v, where arcs are read that way.
+    fn next(&self, direction: Direction, u: u16, from: u16) -> Option<u16>
+        ensures { NextSuccessor (along direction (list_model self.now)) u from result }
+    {
+        let n = self.order();
+        if u >= n {
+            return None;
+        }
+        // n is no vertex, and stands for none so far: what is found is then compared as a number
+        let mut best = n;
+        for arc in self.entries() {
+            if let Some(v) = arc.turned(direction).head_from(u) {
+                best = nearer(v, from, best);
             }
         }
-        false
+        if best < n { Some(best) } else { None }
     }
 }
 
 impl<'a> Digraph for ArcList<'a> {
     const LIMIT: u16 = 512;
 
-    ghost model = { list_model };
-
     ghost most = { 512 };
+
+    ghost model = { list_model };
 
     ghost modest = { lit≤ tt };
 
@@ -152,35 +187,11 @@ impl<'a> Digraph for ArcList<'a> {
     }
 
     fn next_successor(&self, u: u16, from: u16) -> Option<u16> {
-        let n = self.order();
-        if u >= n {
-            return None;
-        }
-        let taken = self.taken();
-        let mut best = n;
-        for i in 0..taken {
-            let arc = self.table[i as usize];
-            if let Some(v) = arc.head_from(u) {
-                best = nearer(v, from, best);
-            }
-        }
-        if best < n { Some(best) } else { None }
+        self.next(Direction::Forward, u, from)
     }
 
     fn next_predecessor(&self, v: u16, from: u16) -> Option<u16> {
-        let n = self.order();
-        if v >= n {
-            return None;
-        }
-        let taken = self.taken();
-        let mut best = n;
-        for i in 0..taken {
-            let arc = self.table[i as usize];
-            if let Some(u) = arc.tail_to(v) {
-                best = nearer(u, from, best);
-            }
-        }
-        if best < n { Some(best) } else { None }
+        self.next(Direction::Backward, v, from)
     }
 }
 
@@ -195,12 +206,7 @@ impl<'a> GrowableDigraph for ArcList<'a> {
             return Err(Refusal::LimitReached);
         }
         let taken = self.taken();
-        for i in 0..taken {
-            let arc = self.table[i as usize];
-            if arc.tail == n || arc.head == n {
-                self.table[i as usize] = Arc { tail: 0, head: 0 };
-            }
-        }
+        blot_out(self.table, taken, n);
         self.count = n + 1;
         Ok(n)
     }

@@ -22,9 +22,9 @@ impl<'a, G: Digraph> Reversed<'a, G> {
 impl<'a, G: Digraph> Digraph for Reversed<'a, G> {
     const LIMIT: u16 = G::LIMIT;
 
-    ghost model = { λ x. mirrored (G.Digraph.model x.graph.now) };
-
     ghost most = { G.Digraph.most };
+
+    ghost model = { λ x. mirrored (G.Digraph.model x.graph.now) };
 
     ghost modest = { G.Digraph.modest };
 

@@ -1,8 +1,8 @@
 // The calls of a square of bits.
-ghost use Rattle.std.specs.Prelude.{◌≡◌, ◌+◌, ◌<◌, ◌≤◌, Err, ◌≢◌};
+ghost use Rattle.std.specs.Prelude.{◌≡◌, ℕ, Bool, ◌+◌, ◌<◌, ◌≤◌, Err, ◌≢◌};
 ghost use Rattle.std.proofs.Common.{lit≤};
 ghost use Rattle.graph.specs.Model.{Empty};
-ghost use Rattle.graph.specs.Square.{flagged};
+ghost use Rattle.graph.specs.Square.{flagged, LowestPassing};
 ghost use Rattle.graph.specs.Growth.{ArcAdded};
 ghost use Rattle.graph.specs.MatrixModel.{matrix_model, matrix_arc_limit, LimitOnlyWhenComplete};
 ghost use Rattle.graph.specs.Facts.{matrix_proper, matrix_bounded};
@@ -17,6 +17,21 @@ fn has_bit(row: u64, v: u16) -> bool
     ensures { result ≡ flagged row v }
 {
     (row >> v) & 1 == 1
+}
+
+// The lowest v, from `from` up to just below `end`, that passes the test. (`find` was tried in its callers: for a row it did not close.)
+fn lowest<F: Fn(u16) -> bool>(from: u16, end: u16, test: F) -> Option<u16>
+    ghost passes: { ℕ → Bool }
+    requires may { (v : ℕ) → v < end → F.pre test v }
+    requires tells { (v : ℕ) (b : Bool) → v < end → F.post test v b → b ≡ passes v }
+    ensures { LowestPassing passes from end result }
+{
+    for v in from..end {
+        if test(v) {
+            return Some(v);
+        }
+    }
+    None
 }
 
 impl BitMatrix {
@@ -34,9 +49,9 @@ impl BitMatrix {
 impl Digraph for BitMatrix {
     const LIMIT: u16 = 64;
 
-    ghost model = { matrix_model };
-
     ghost most = { 64 };
+
+    ghost model = { matrix_model };
 
     ghost modest = { lit≤ tt };
 
@@ -56,25 +71,14 @@ impl Digraph for BitMatrix {
         if u >= self.count {
             return None;
         }
-        let row = self.rows[u as usize];
-        for v in from..self.count {
-            if has_bit(row, v) {
-                return Some(v);
-            }
-        }
-        None
+        lowest(from, self.count, |v| has_bit(self.rows[u as usize], v))
     }
 
     fn next_predecessor(&self, v: u16, from: u16) -> Option<u16> {
         if v >= self.count {
             return None;
         }
-        for u in from..self.count {
-            if has_bit(self.rows[u as usize], v) {
-                return Some(u);
-            }
-        }
-        None
+        lowest(from, self.count, |u| has_bit(self.rows[u as usize], v))
     }
 }
 
