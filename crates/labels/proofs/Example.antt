@@ -6,9 +6,10 @@ use Rattle.graph.specs.Facts.{drawn_parts}
 use Rattle.labels.specs.declared.rule.Rule.{Rule}
 use Rattle.labels.specs.declared.rule.Rule.TheVariants.{Positions, Arcs, Sures, Fars, Levels, Components, SupportBits}
 use Rattle.labels.specs.Bounded.{all_below}
+use Rattle.labels.specs.Rules.{Holds}
 use Rattle.labels.specs.Checks.{extreme, bit_exact, placed, rises, sure_forward, sure_backward, sure_allowed, far_extreme, levelled, joined, support_bits_exact, holds}
-use Rattle.labels.specs.Example.{example, example_arcs, example_labels, example_supports, ExampleMeetsRules, ExampleAnswers}
-use Rattle.labels.specs.BoundedLemmas.{all_at}
+use Rattle.labels.specs.Example.{example, example_arcs, example_labels, example_supports, ExampleMeetsRules}
+use Rattle.labels.specs.BoundedLemmas.{all_tells}
 use Rattle.labels.proofs.Agree.{rules_compute_lem}
 
 example_proper : Proper example
@@ -31,9 +32,6 @@ each_computes SupportBits = refl
 pub example_meets_rules_lem : ExampleMeetsRules
 example_meets_rules_lem = (
   example_proper,
-  λ k v hv. (rules_compute_lem example example_proper example_labels example_supports k v).0
-      (all_at 6 (λ x. holds k example example_labels example_supports x) (each_computes k) v hv),
+  λ k. (all_tells (holds k example example_labels example_supports) (λ v. Holds k example example_labels example_supports v)
+      (rules_compute_lem example example_proper example_labels example_supports k) 6).0 (each_computes k),
 )
-
-pub example_answers : ExampleAnswers
-example_answers = (refl, refl, refl, refl, refl, refl, refl)

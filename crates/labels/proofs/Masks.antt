@@ -1,70 +1,51 @@
 -- Masks by their bits. Assumes nothing.
-use Rattle.std.proofs.Common.{◌≡◌, ℕ, zero, suc, ◌*◌, ◌/◌, ◌%◌, ◌^◌, ◌<◌, min, not, ◌&&◌, eqb, sym, ap, ◌∙◌, inl, inr, pow-suc, one-add, arith}
-use native.Mathlib.Nat.{zero-div}
-use lib.Bits.{bit_and, and_step, and_shr, and_le_l}
-use Rattle.std.proofs.lemmas.Nat.{shr-shr}
-use Rattle.std.proofs.lemmas.Bool.{and_parts, and_from, eqb-true, eqb-false, eq-eqb, ne_eqb, not-true, not_from_false, cases_eq}
-use Rattle.graph.specs.Square.{flagged}
+use Rattle.std.proofs.Common.{◌≡◌, ℕ, ◌<◌, ◌^◌, not, eqb, ap, ◌∙◌, inl, inr, arith}
+use Rattle.std.specs.Int.{bit_at}
+use lib.Bits.{bit_and, and_le_l}
+use Rattle.std.proofs.lemmas.Nat.Bits.{bit_at_and, bit_at-lt, bit_at-zero, same_from_bits_below}
+use Rattle.std.proofs.lemmas.Bool.{eqb-true, eq-eqb, true_from_ne_false, cases_eq}
+use Rattle.std.proofs.lemmas.Bool.Decides.{same_from_decides, not_from_Decides, Decides-not, Decides-eqb}
 use Rattle.labels.specs.Judges.{meets, exceeds}
-use Rattle.labels.specs.BoundedLemmas.{same_truth, some_found, some_made}
-
--- two different numbers of k bits differ in one of them
-differ_at : (k x y : ℕ) → x < 2 ^ k → y < 2 ^ k → (x ≡ y → ⊥) → (i : ℕ) × (i < k) × (x / 2 ^ i % 2 ≡ y / 2 ^ i % 2 → ⊥)
-differ_at zero x y hx hy ne = absurd (ne (omega arith))
-differ_at (suc k) x y hx hy ne =
-    let p : 2 ^ suc k ≡ 2 ^ k * 2 = pow-suc 2 k in
-    elim (cases_eq (x % 2) (y % 2)) [
-      | inl e ↦
-          let r = differ_at k (x / 2) (y / 2) (omega arith) (omega arith) (omega arith) in
-          let lt = r.1 in
-          let ex : x / 2 / 2 ^ r.0 ≡ x / 2 ^ suc r.0 = shr-shr x 1 r.0 ∙ ap (λ n. x / 2 ^ n) (one-add r.0) in
-          let ey : y / 2 / 2 ^ r.0 ≡ y / 2 ^ suc r.0 = shr-shr y 1 r.0 ∙ ap (λ n. y / 2 ^ n) (one-add r.0) in
-          (suc r.0, omega arith, λ f. r.2 (ap (λ n. n % 2) ex ∙ f ∙ sym (ap (λ n. n % 2) ey)))
-      | inr n ↦ (0, omega arith, λ f. n (omega arith))
-    ]
-
-and_at : (i m n : ℕ) → bit_and m n / 2 ^ i % 2 ≡ min (m / 2 ^ i % 2) (n / 2 ^ i % 2)
-and_at i m n =
-    ap (λ x. x % 2) (and_shr m n i) ∙ (let h = and_step (m / 2 ^ i) (n / 2 ^ i) in omega arith)
+use Rattle.labels.specs.BoundedLemmas.{meets_tells, exceeds_tells}
 
 pub meets_mask : (m n : ℕ) → m < 2 ^ 16 → not (eqb (bit_and m n) 0) ≡ meets m n
-unfolding meets
 meets_mask m n hm =
-    same_truth (not (eqb (bit_and m n) 0)) (meets m n)
-    (λ t. let le = and_le_l m n in
-    let r = differ_at 16 (bit_and m n) 0 (omega arith) (omega arith) (eqb-false (bit_and m n) 0 (not-true (eqb (bit_and m n) 0) t)) in
-    let at = and_at r.0 m n in
-    let z : 0 / 2 ^ r.0 ≡ 0 = zero-div (2 ^ r.0) in
-    let ne = r.2 in
-    let p : m / 2 ^ r.0 % 2 ≡ 1 = omega arith in
-    let q : n / 2 ^ r.0 % 2 ≡ 1 = omega arith in
-    some_made 16 (λ i. flagged m i && flagged n i) r.0 r.1 (and_from (flagged m r.0) (flagged n r.0) (eq-eqb _ _ p) (eq-eqb _ _ q)))
-    (λ t. let x = some_found 16 (λ i. flagged m i && flagged n i) t in
-    let both = and_parts (flagged m x.0) (flagged n x.0) x.2 in
-    let p = eqb-true (m / 2 ^ x.0 % 2) 1 both.0 in
-    let q = eqb-true (n / 2 ^ x.0 % 2) 1 both.1 in
-    let at = and_at x.0 m n in
-    not_from_false (eqb (bit_and m n) 0) (ne_eqb (bit_and m n) 0 (λ e.
-    let z : bit_and m n / 2 ^ x.0 ≡ 0 = ap (λ y. y / 2 ^ x.0) e ∙ zero-div (2 ^ x.0) in
-    omega arith)))
+    same_from_decides _ (meets m n) (Decides-not (eqb (bit_and m n) 0) (Decides-eqb (bit_and m n) 0)) (
+      λ t e. let (i, hi, (a, b)) = (meets_tells m n).0 t in
+          let p = eqb-true (bit_at m i) 1 a in
+          let q = eqb-true (bit_at n i) 1 b in
+          let both = bit_at_and m n i in
+          let z : bit_at (bit_and m n) i ≡ 0 = ap (λ x. bit_at x i) e ∙ bit_at-zero i in
+          omega arith,
+      λ ne. true_from_ne_false (meets m n) (λ f. ne
+          (same_from_bits_below 16 (bit_and m n) 0 (let le = and_le_l m n in omega arith) (omega arith) (λ i hi.
+          let both = bit_at_and m n i in
+          let low = bit_at-lt m i in
+          let low' = bit_at-lt n i in
+          let none : bit_at (bit_and m n) i ≡ 1 → ⊥ =
+          λ e. not_from_Decides (meets m n) (meets_tells m n) f (i, hi, (eq-eqb (bit_at m i) 1 (omega arith), eq-eqb (bit_at n i) 1 (omega arith))) in
+          let z = bit_at-zero i in
+          omega arith))),
+    )
 
 pub exceeds_mask : (m n : ℕ) → m < 2 ^ 16 → not (eqb (bit_and m n) m) ≡ exceeds m n
-unfolding exceeds
 exceeds_mask m n hm =
-    same_truth (not (eqb (bit_and m n) m)) (exceeds m n)
-    (λ t. let le = and_le_l m n in
-    let r = differ_at 16 (bit_and m n) m (omega arith) hm (eqb-false (bit_and m n) m (not-true (eqb (bit_and m n) m) t)) in
-    let at = and_at r.0 m n in
-    let ne = r.2 in
-    let p : m / 2 ^ r.0 % 2 ≡ 1 = omega arith in
-    let q : n / 2 ^ r.0 % 2 ≡ 1 → ⊥ = omega arith in
-    some_made 16 (λ i. flagged m i && not (flagged n i)) r.0 r.1
-    (and_from (flagged m r.0) (not (flagged n r.0)) (eq-eqb _ _ p) (not_from_false (flagged n r.0) (ne_eqb _ _ q))))
-    (λ t. let x = some_found 16 (λ i. flagged m i && not (flagged n i)) t in
-    let both = and_parts (flagged m x.0) (not (flagged n x.0)) x.2 in
-    let p = eqb-true (m / 2 ^ x.0 % 2) 1 both.0 in
-    let q : n / 2 ^ x.0 % 2 ≡ 1 → ⊥ = eqb-false (n / 2 ^ x.0 % 2) 1 (not-true (flagged n x.0) both.1) in
-    let at = and_at x.0 m n in
-    not_from_false (eqb (bit_and m n) m) (ne_eqb (bit_and m n) m (λ e.
-    let z : bit_and m n / 2 ^ x.0 % 2 ≡ m / 2 ^ x.0 % 2 = ap (λ y. y / 2 ^ x.0 % 2) e in
-    omega arith)))
+    same_from_decides _ (exceeds m n) (Decides-not (eqb (bit_and m n) m) (Decides-eqb (bit_and m n) m)) (
+      λ t e. let (i, hi, (a, b)) = (exceeds_tells m n).0 t in
+          let p = eqb-true (bit_at m i) 1 a in
+          let both = bit_at_and m n i in
+          let same : bit_at (bit_and m n) i ≡ bit_at m i = ap (λ x. bit_at x i) e in
+          let low = bit_at-lt n i in
+          b (eq-eqb (bit_at n i) 1 (omega arith)),
+      λ ne. true_from_ne_false (exceeds m n) (λ f. ne
+          (same_from_bits_below 16 (bit_and m n) m (let le = and_le_l m n in omega arith) hm (λ i hi.
+          let both = bit_at_and m n i in
+          let low = bit_at-lt m i in
+          elim (cases_eq (bit_at n i) 1) [
+            | inl b ↦ omega arith
+            | inr b ↦
+                let none : bit_at m i ≡ 1 → ⊥ =
+                λ a. not_from_Decides (exceeds m n) (exceeds_tells m n) f (i, hi, (eq-eqb (bit_at m i) 1 a, λ c. b (eqb-true (bit_at n i) 1 c))) in
+                omega arith
+          ]))),
+    )

@@ -1,9 +1,11 @@
 -- Labels with the strongest entries decide all that rival labels decide. Assumes nothing.
-use Rattle.std.proofs.Common.{◌≡◌, ℕ, ◌+◌, ◌<◌, ◌≤◌, Bool, true, false, not, ◌&&◌, ◌||◌, eqb, ltb, leb, is_some, Some, None, Option, sym, refl, ap, ◌∙◌, inl, inr, arith}
+use Rattle.std.proofs.Common.{◌≡◌, ℕ, ◌+◌, ◌<◌, ◌≤◌, Bool, true, false, not, ◌||◌, eqb, ltb, leb, Some, None, Option, sym, refl, ap, ◌∙◌, inl, inr, arith}
+use Rattle.std.specs.Option.{IsSome}
 use mathlib.Core.Bool.{Bool-set, false≢true}
 use mathlib.Core.Logic.{∥∥₁_elim, ∥∥₁_map}
 use native.Mathlib.Nat.{ℕ_set}
-use Rattle.std.proofs.lemmas.Bool.{or_cases, or_left, or_right, and_parts, and_from, not-true, not_from_false, eqb-true, eqb-false, eq-eqb, ne_eqb, ltb-true, lt-ltb, leb-true, le-leb, cases_eq, both_ways}
+use Rattle.std.proofs.lemmas.Bool.Decides.{nat_tests}
+use Rattle.std.proofs.lemmas.Bool.{or_cases, or_left, or_right, eq-eqb, cases_eq}
 use Rattle.graph.specs.Model.{Model, Proper, reversed}
 use Rattle.graph.specs.Paths.{Path}
 use Rattle.graph.specs.Square.{flagged}
@@ -19,29 +21,28 @@ use Rattle.labels.specs.Rules.{Rules, SureForward, SureBackward}
 use Rattle.labels.specs.Judges.{Judge, first, says, on_ground, meets, exceeds, same, ends, components, levels, forward, backward, orders, supports, or_else, six}
 use Rattle.labels.specs.Laws.{Claim, RightIfAny}
 use Rattle.labels.specs.Theorems.{undirected, Strongest, SamePositions, verdict_of, RivalsDecideNoMore}
-use Rattle.labels.specs.BoundedLemmas.{some_found, some_made, untrue}
+use Rattle.labels.specs.BoundedLemmas.{meets_tells, exceeds_tells}
 use Rattle.labels.specs.Facts as fact
 use Rattle.labels.specs.Facts.{forward_row}
 use Rattle.labels.proofs.Unique.{extreme_unique}
 use Rattle.labels.specs.Lawful.{six_lawful}
 
--- deciding
-abbrev Decides : {A : Type 0} → Option A → Type 0
-Decides o = is_some o ≡ true
-
-first_mono : {A : Type 0} (o p o' p' : Option A) → (Decides o → Decides o') → (Decides p → Decides p') → Decides (first o p) → Decides (first o' p')
+first_mono : {A : Type 0} (o p o' p' : Option A) → (IsSome o → IsSome o') → (IsSome p → IsSome p') → IsSome (first o p) → IsSome (first o' p')
 first_mono None p None p' f h d = h d
 first_mono None p (Some x) p' f h d = refl
 first_mono (Some x) p None p' f h d = absurd (false≢true (f refl))
 first_mono (Some x) p (Some y) p' f h d = refl
 
-says_mono : (b b' : Bool) (v : Verdict) → (b ≡ true → b' ≡ true) → Decides (says b v) → Decides (says b' v)
+says_mono : (b b' : Bool) (v : Verdict) → (b ≡ true → b' ≡ true) → IsSome (says b v) → IsSome (says b' v)
 says_mono true true v f d = refl
 says_mono true false v f d = f refl
 says_mono false true v f d = refl
 says_mono false false v f d = d
 
-ground_mono : (k : ℕ) (o o' : Option Verdict) → (Decides o → Decides o') → Decides (on_ground k o) → Decides (on_ground k o')
+next_mono : (b b' : Bool) (v : Verdict) (o o' : Option Verdict) → (b ≡ true → b' ≡ true) → (IsSome o → IsSome o') → IsSome (first (says b v) o) → IsSome (first (says b' v) o')
+next_mono b b' v o o' f h = first_mono (says b v) o (says b' v) o' (says_mono b b' v f) h
+
+ground_mono : (k : ℕ) (o o' : Option Verdict) → (IsSome o → IsSome o') → IsSome (on_ground k o) → IsSome (on_ground k o')
 ground_mono k None None f d = d
 ground_mono k None (Some y) f d = refl
 ground_mono k (Some x) None f d = f refl
@@ -109,45 +110,29 @@ abbrev Carried : ℕ → ℕ → Type 0
 Carried m n = (i : ℕ) → i < 16 → flagged m i ≡ true → flagged n i ≡ true
 
 meets_moves : (m n m' n' : ℕ) → Carried m m' → Carried n n' → meets m n ≡ true → meets m' n' ≡ true
-unfolding meets
-meets_moves m n m' n' f h t =
-    let x = some_found 16 (λ i. flagged m i && flagged n i) t in
-    let both = and_parts (flagged m x.0) (flagged n x.0) x.2 in
-    some_made 16 (λ i. flagged m' i && flagged n' i) x.0 x.1 (and_from (flagged m' x.0) (flagged n' x.0) (f x.0 x.1 both.0) (h x.0 x.1 both.1))
+meets_moves m n m' n' f h t = let (i, hi, (a, b)) = (meets_tells m n).0 t in (meets_tells m' n').1 (i, hi, (f i hi a, h i hi b))
 
 exceeds_moves : (m n m' n' : ℕ) → Carried m m' → Carried n' n → exceeds m n ≡ true → exceeds m' n' ≡ true
-unfolding exceeds
-exceeds_moves m n m' n' f h t =
-    let x = some_found 16 (λ i. flagged m i && not (flagged n i)) t in
-    let both = and_parts (flagged m x.0) (not (flagged n x.0)) x.2 in
-    some_made 16 (λ i. flagged m' i && not (flagged n' i)) x.0 x.1
-    (and_from (flagged m' x.0) (not (flagged n' x.0)) (f x.0 x.1 both.0)
-    (not_from_false (flagged n' x.0) (untrue (flagged n' x.0) (λ b. both_ways (flagged n x.0) (not-true _ both.1) (h x.0 x.1 b)))))
+exceeds_moves m n m' n' f h t = let (i, hi, (a, b)) = (exceeds_tells m n).0 t in (exceeds_tells m' n').1 (i, hi, (f i hi a, λ c. b (h i hi c)))
 
 -- one row: the same positions and far, and a sure place that decides no less
 forward_mono :
     (x y x' y' : Row) → x.position ≡ x'.position → y.position ≡ y'.position → x.sure ≤ x'.sure → x.far ≡ x'.far
-    → Decides (forward x y) → Decides (forward x' y')
+    → IsSome (forward x y) → IsSome (forward x' y')
 forward_mono x y x' y' px py sx fx =
-    first_mono _ _ (says (ltb y'.position x'.position) No) _
-    (says_mono (ltb y.position x.position) _ No (λ t. let h = ltb-true y.position x.position t in lt-ltb _ _ (omega arith)))
-    (first_mono _ _ (says (leb y'.position x'.sure) Yes) _
-    (says_mono (leb y.position x.sure) _ Yes (λ t. let h = leb-true y.position x.sure t in le-leb _ _ (omega arith)))
-    (first_mono _ _ (says (eqb y'.position x'.far) Yes) _
-    (says_mono (eqb y.position x.far) _ Yes (λ t. let h = eqb-true y.position x.far t in eq-eqb _ _ (omega arith)))
-    (says_mono (ltb x.far y.position) _ No (λ t. let h = ltb-true x.far y.position t in lt-ltb _ _ (omega arith)))))
+    next_mono (ltb y.position x.position) (ltb y'.position x'.position) No _ _ (λ t. grind (arith, nat_tests))
+    (next_mono (leb y.position x.sure) (leb y'.position x'.sure) Yes _ _ (λ t. grind (arith, nat_tests))
+    (next_mono (eqb y.position x.far) (eqb y'.position x'.far) Yes _ _ (λ t. grind (arith, nat_tests))
+    (says_mono _ _ No (λ t. grind (arith, nat_tests)))))
 
 backward_mono :
     (x y x' y' : Row) → x.position ≡ x'.position → y.position ≡ y'.position → y'.sure ≤ y.sure → y.far ≡ y'.far
-    → Decides (backward x y) → Decides (backward x' y')
+    → IsSome (backward x y) → IsSome (backward x' y')
 backward_mono x y x' y' px py sy fy =
-    first_mono _ _ (says (ltb y'.position x'.position) No) _
-    (says_mono (ltb y.position x.position) _ No (λ t. let h = ltb-true y.position x.position t in lt-ltb _ _ (omega arith)))
-    (first_mono _ _ (says (leb y'.sure x'.position) Yes) _
-    (says_mono (leb y.sure x.position) _ Yes (λ t. let h = leb-true y.sure x.position t in le-leb _ _ (omega arith)))
-    (first_mono _ _ (says (eqb x'.position y'.far) Yes) _
-    (says_mono (eqb x.position y.far) _ Yes (λ t. let h = eqb-true x.position y.far t in eq-eqb _ _ (omega arith)))
-    (says_mono (ltb x.position y.far) _ No (λ t. let h = ltb-true x.position y.far t in lt-ltb _ _ (omega arith)))))
+    next_mono (ltb y.position x.position) (ltb y'.position x'.position) No _ _ (λ t. grind (arith, nat_tests))
+    (next_mono (leb y.sure x.position) (leb y'.sure x'.position) Yes _ _ (λ t. grind (arith, nat_tests))
+    (next_mono (eqb x.position y.far) (eqb x'.position y'.far) Yes _ _ (λ t. grind (arith, nat_tests))
+    (says_mono _ _ No (λ t. grind (arith, nat_tests)))))
 
 module _ (g : Model) (proper : Proper g) (labels rival : Labels) (supp : Supports) (strongest : Strongest g labels supp) (rules' : Rules g rival supp) (placed : SamePositions g rival labels) where
   rules : Rules g labels supp
@@ -198,77 +183,65 @@ module _ (g : Model) (proper : Proper g) (labels rival : Labels) (supp : Support
       sym (rival_linked p) ∙ ap (λ x. (rival x).component) e ∙ rival_linked q))
 
   module _ (s t : ℕ) (hs : s < g.order) (ht : t < g.order) where
-    ends_mono : Decides (ends s t (rival s) (rival t)) → Decides (ends s t (labels s) (labels t))
+    ends_mono : IsSome (ends s t (rival s) (rival t)) → IsSome (ends s t (labels s) (labels t))
     ends_mono =
         let d = down_same s hs in
         let u = up_same t ht in
-        ground_mono 2 (says (eqb (rival s).down 0 || eqb (rival t).up 0) No) (says (eqb (labels s).down 0 || eqb (labels t).up 0) No)
-        (says_mono _ _ No (or_mono (eqb (rival s).down 0) (eqb (rival t).up 0) (eqb (labels s).down 0) (eqb (labels t).up 0)
-        (λ k. let h = eqb-true (rival s).down 0 k in eq-eqb _ _ (omega arith)) (λ k. let h = eqb-true (rival t).up 0 k in eq-eqb _ _ (omega arith))))
+        ground_mono 2 _ _ (says_mono (eqb (rival s).down 0 || eqb (rival t).up 0) (eqb (labels s).down 0 || eqb (labels t).up 0) No (λ k. grind (arith, nat_tests)))
 
-    components_mono : Decides (components s t (rival s) (rival t)) → Decides (components s t (labels s) (labels t))
+    components_mono : IsSome (components s t (rival s) (rival t)) → IsSome (components s t (labels s) (labels t))
     components_mono =
-        ground_mono 3 (says (not (eqb (rival s).component (rival t).component)) No) (says (not (eqb (labels s).component (labels t).component)) No)
-        (says_mono _ _ No (λ k. not_from_false (eqb (labels s).component (labels t).component) (ne_eqb _ _ (λ e.
-        eqb-false (rival s).component (rival t).component (not-true _ k) (component_same s t hs ht e)))))
+        let same = component_same s t hs ht in
+        ground_mono 3 _ _
+        (says_mono (not (eqb (rival s).component (rival t).component)) (not (eqb (labels s).component (labels t).component)) No (λ k. grind (arith, nat_tests)))
 
-    levels_mono : Decides (levels s t (rival s) (rival t)) → Decides (levels s t (labels s) (labels t))
+    levels_mono : IsSome (levels s t (rival s) (rival t)) → IsSome (levels s t (labels s) (labels t))
     levels_mono =
         let ds = down_same s hs in
         let us = up_same s hs in
         let dt = down_same t ht in
         let ut = up_same t ht in
-        ground_mono 4 (says (leb (rival t).up (rival s).up || leb (rival s).down (rival t).down) No) (says (leb (labels t).up (labels s).up || leb (labels s).down (labels t).down) No)
-        (says_mono _ _ No (or_mono (leb (rival t).up (rival s).up) (leb (rival s).down (rival t).down) (leb (labels t).up (labels s).up) (leb (labels s).down (labels t).down)
-        (λ k. let h = leb-true (rival t).up (rival s).up k in le-leb _ _ (omega arith)) (λ k. let h = leb-true (rival s).down (rival t).down k in le-leb _ _ (omega arith))))
+        ground_mono 4 _ _
+        (says_mono (leb (rival t).up (rival s).up || leb (rival s).down (rival t).down) (leb (labels t).up (labels s).up || leb (labels s).down (labels t).down) No
+        (λ k. grind (arith, nat_tests)))
 
-    fore : (r : ℕ) → Forward r → Decides (forward (row (rival s) r) (row (rival t) r)) → Decides (forward (row (labels s) r) (row (labels t) r))
+    fore : (r : ℕ) → Forward r → IsSome (forward (row (rival s) r) (row (rival t) r)) → IsSome (forward (row (labels s) r) (row (labels t) r))
     fore r hr =
         forward_mono (row (rival s) r) (row (rival t) r) (row (labels s) r) (row (labels t) r)
         (placed r (forward_row r hr) s hs) (placed r (forward_row r hr) t ht) (sure_more r hr s hs) (far_same r hr s hs)
 
-    back : (r : ℕ) → Backward r → Decides (backward (row (rival s) r) (row (rival t) r)) → Decides (backward (row (labels s) r) (row (labels t) r))
+    back : (r : ℕ) → Backward r → IsSome (backward (row (rival s) r) (row (rival t) r)) → IsSome (backward (row (labels s) r) (row (labels t) r))
     back r hr =
         backward_mono (row (rival s) r) (row (rival t) r) (row (labels s) r) (row (labels t) r)
         (placed r hr.high s hs) (placed r hr.high t ht) (sure_less r hr t ht) (far_same_back r hr t ht)
 
-    orders_mono : Decides (orders s t (rival s) (rival t)) → Decides (orders s t (labels s) (labels t))
+    orders_mono : IsSome (orders s t (rival s) (rival t)) → IsSome (orders s t (labels s) (labels t))
     orders_mono =
-        let f : Labels → ℕ → Option Verdict = λ l r. forward (row (l s) r) (row (l t) r) in
-        let b : Labels → ℕ → Option Verdict = λ l r. backward (row (l s) r) (row (l t) r) in
-        ground_mono 5 (first (f rival 0) (first (f rival 1) (first (b rival 2) (b rival 3)))) (first (f labels 0) (first (f labels 1) (first (b labels 2) (b labels 3))))
-        (first_mono (f rival 0) (first (f rival 1) (first (b rival 2) (b rival 3))) (f labels 0) (first (f labels 1) (first (b labels 2) (b labels 3))) (fore 0 (omega arith))
-        (first_mono (f rival 1) (first (b rival 2) (b rival 3)) (f labels 1) (first (b labels 2) (b labels 3)) (fore 1 (omega arith))
-        (first_mono (b rival 2) (b rival 3) (b labels 2) (b labels 3) (back 2 (record { low = omega arith; high = omega arith }))
+        ground_mono 5 _ _
+        (first_mono _ _ _ _ (fore 0 (omega arith))
+        (first_mono _ _ _ _ (fore 1 (omega arith))
+        (first_mono _ _ _ _ (back 2 (record { low = omega arith; high = omega arith }))
         (back 3 (record { low = omega arith; high = omega arith })))))
 
-    supports_mono : Decides (supports s t (rival s) (rival t)) → Decides (supports s t (labels s) (labels t))
+    supports_mono : IsSome (supports s t (rival s) (rival t)) → IsSome (supports s t (labels s) (labels t))
     supports_mono =
         let from : (v : ℕ) → v < g.order → Carried (rival v).from (labels v).from = λ v hv i hi. from_moves g proper rival labels supp rules' rules i v hi hv in
         let from' : (v : ℕ) → v < g.order → Carried (labels v).from (rival v).from = λ v hv i hi. from_moves g proper labels rival supp rules rules' i v hi hv in
         let to : (v : ℕ) → v < g.order → Carried (rival v).to (labels v).to = λ v hv i hi. to_moves g proper rival labels supp rules' rules i v hi hv in
         let to' : (v : ℕ) → v < g.order → Carried (labels v).to (rival v).to = λ v hv i hi. to_moves g proper labels rival supp rules rules' i v hi hv in
-        let yes-says : Labels → Option Verdict = λ l. says (meets (l s).to (l t).from) Yes in
-        let no_says : Labels → Option Verdict = λ l. says (exceeds (l s).from (l t).from || exceeds (l t).to (l s).to) No in
-        ground_mono 6 (first (yes-says rival) (no_says rival)) (first (yes-says labels) (no_says labels))
-        (first_mono (yes-says rival) (no_says rival) (yes-says labels) (no_says labels)
-        (says_mono (meets (rival s).to (rival t).from) (meets (labels s).to (labels t).from) Yes (meets_moves _ _ _ _ (to s hs) (from t ht)))
+        ground_mono 6 _ _
+        (next_mono (meets (rival s).to (rival t).from) (meets (labels s).to (labels t).from) Yes _ _ (meets_moves _ _ _ _ (to s hs) (from t ht))
         (says_mono _ _ No
         (or_mono (exceeds (rival s).from (rival t).from) (exceeds (rival t).to (rival s).to) (exceeds (labels s).from (labels t).from) (exceeds (labels t).to (labels s).to)
         (exceeds_moves _ _ _ _ (from s hs) (from' t ht)) (exceeds_moves _ _ _ _ (to t ht) (to' s hs)))))
 
-    all_mono : Decides (six s t (rival s) (rival t)) → Decides (six s t (labels s) (labels t))
+    all_mono : IsSome (six s t (rival s) (rival t)) → IsSome (six s t (labels s) (labels t))
     all_mono =
-        let j : Labels → Judge → Option Decision = λ l k. k s t (l s) (l t) in
-        let rest : Judge = or_else ends (or_else components (or_else levels (or_else orders supports))) in
-        let rest₂ : Judge = or_else components (or_else levels (or_else orders supports)) in
-        let rest₃ : Judge = or_else levels (or_else orders supports) in
-        let rest₄ : Judge = or_else orders supports in
-        first_mono (j rival same) (j rival rest) (j labels same) (j labels rest) (λ d. d)
-        (first_mono (j rival ends) (j rival rest₂) (j labels ends) (j labels rest₂) ends_mono
-        (first_mono (j rival components) (j rival rest₃) (j labels components) (j labels rest₃) components_mono
-        (first_mono (j rival levels) (j rival rest₄) (j labels levels) (j labels rest₄) levels_mono
-        (first_mono (j rival orders) (j rival supports) (j labels orders) (j labels supports) orders_mono supports_mono))))
+        first_mono _ _ _ _ (λ d. d)
+        (first_mono _ _ _ _ ends_mono
+        (first_mono _ _ _ _ components_mono
+        (first_mono _ _ _ _ levels_mono
+        (first_mono _ _ _ _ orders_mono supports_mono))))
 
 -- two right decisions agree
 claims_agree : (g : Model) (s t : ℕ) (v w : Verdict) → Claim g s t v → Claim g s t w → v ≡ w
@@ -278,18 +251,14 @@ claims_agree g s t No Yes c d = absurd (c d)
 claims_agree g s t No No c d = refl
 
 agree :
-    (g : Model) (s t : ℕ) (o p : Option Decision) (v : Verdict) → RightIfAny g s t o → RightIfAny g s t p → (Decides o → Decides p)
+    (g : Model) (s t : ℕ) (o p : Option Decision) (v : Verdict) → RightIfAny g s t o → RightIfAny g s t p → (IsSome o → IsSome p)
     → verdict_of o ≡ Some v → verdict_of p ≡ Some v
-agree g s t None p v c d f e = let z : ◌≡◌ {A = ℕ} 0 1 = cc in absurd (omega arith)
+agree g s t None p v c d f e = cc
 agree g s t (Some x) None v c d f e = absurd (false≢true (f refl))
 agree g s t (Some x) (Some y) v c d f e = ap (λ w. Some w) (claims_agree g s t y.verdict x.verdict d.claim c.claim) ∙ e
 
 same_first : (s t : ℕ) (rest : Judge) → s ≡ t → (a b a' b' : _) → verdict_of (or_else same rest s t a b) ≡ verdict_of (or_else same rest s t a' b')
-same_first s t rest e a b a' b' = go (eqb s t) (eq-eqb s t e)
-  where
-    go : (x : Bool) → x ≡ true → verdict_of (first (on_ground 1 (says x Yes)) (rest s t a b)) ≡ verdict_of (first (on_ground 1 (says x Yes)) (rest s t a' b'))
-    go true h = refl
-    go false h = absurd (false≢true h)
+same_first s t rest e a b a' b' = rw (eq-eqb s t e)
 
 pub rivals_decide_no_more_lem : RivalsDecideNoMore
 rivals_decide_no_more_lem g proper labels rival supp strongest rules' placed s t hs ht v e =

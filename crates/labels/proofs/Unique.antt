@@ -1,10 +1,10 @@
 -- Two functions that meet the same extreme rule along the arcs are one. Assumes nothing.
-use Rattle.std.proofs.Common.{◌≡◌, ℕ, zero, suc, ◌<◌, ◌⊎◌, sym, ap, ◌∙◌, subst, inl, inr, arith}
+use Rattle.std.proofs.Common.{◌≡◌, ℕ, ◌<◌, ◌⊎◌, sym, ap, ◌∙◌, subst, inl, inr}
 use mathlib.Core.Logic.{∥∥₁_elim}
 use native.Mathlib.Nat.{ℕ_set}
 use Rattle.graph.specs.Model.{Model, Proper}
 use Rattle.labels.specs.Rules.{Extreme, Predecessor}
-use Rattle.labels.specs.Rising.{Rising}
+use Rattle.labels.specs.Rising.{Rising, by_place}
 
 module _ (Upto : ℕ → ℕ → Type 0) (antisymmetric : (a b : ℕ) → Upto a b → Upto b a → a ≡ b) where
   -- what is attained is up to what is extreme over the same values
@@ -26,18 +26,11 @@ module _ (Upto : ℕ → ℕ → Type 0) (antisymmetric : (a b : ℕ) → Upto a
       (attained_upto Among value' value base' base m' m (sym b) (λ u a. sym (same u a)) y e)))
 
   module _ (g : Model) (proper : Proper g) (place : ℕ → ℕ) (rises : Rising g place) (h base base' f f' : ℕ → ℕ) (bases : (v : ℕ) → v < g.order → base v ≡ base' v) where
-    extreme_go :
-        ((v : ℕ) → v < g.order → Extreme Upto (Predecessor g v) (λ u. h (f u)) (base v) (f v))
-        → ((v : ℕ) → v < g.order → Extreme Upto (Predecessor g v) (λ u. h (f' u)) (base' v) (f' v))
-        → (k v : ℕ) → v < g.order → place v < k → f v ≡ f' v
-    extreme_go m m' zero v hv lt = absurd (let z : ⊥ = omega arith in z)
-    extreme_go m m' (suc k) v hv lt =
-        let rec : (u : ℕ) → u < g.order → place u < k → f u ≡ f' u = extreme_go m m' k in
-        extreme_one (Predecessor g v) (λ u. h (f u)) (λ u. h (f' u)) (base v) (base' v) (f v) (f' v) (bases v hv)
-        (λ u a. ap h (let up = rises u v a in rec u (proper.within u v a).0 (omega arith))) (m v hv) (m' v hv)
-
     pub extreme_unique :
         ((v : ℕ) → v < g.order → Extreme Upto (Predecessor g v) (λ u. h (f u)) (base v) (f v))
         → ((v : ℕ) → v < g.order → Extreme Upto (Predecessor g v) (λ u. h (f' u)) (base' v) (f' v))
         → (v : ℕ) → v < g.order → f v ≡ f' v
-    extreme_unique m m' v hv = extreme_go m m' (suc (place v)) v hv (omega arith)
+    extreme_unique m m' =
+        by_place g place (λ v. f v ≡ f' v) (λ v hv lower.
+        extreme_one (Predecessor g v) (λ u. h (f u)) (λ u. h (f' u)) (base v) (base' v) (f v) (f' v) (bases v hv)
+        (λ u a. ap h (lower u (proper.within u v a).0 (rises u v a))) (m v hv) (m' v hv))

@@ -1,49 +1,34 @@
--- What tests over the numbers below a bound tell. Assumes nothing.
-use Rattle.std.specs.Prelude.{◌≡◌, ℕ, zero, suc, ◌<◌, Bool, true, false, ◌≢◌, refl}
-use Rattle.std.proofs.Common.{sym, subst, inl, inr, arith}
-use Rattle.std.proofs.lemmas.Bool.{or_cases, or_left, or_right, and_parts, and_from, cases_eq, false≢true}
+-- What tests over the numbers below a bound tell, and so what `meets` and `exceeds` tell of bits. Assumes nothing.
+use Rattle.std.specs.Prelude.{◌≡◌, ℕ, ◌<◌, Bool, true, false, not, ◌&&◌, ◌≢◌, refl}
+use Rattle.std.specs.Bool.{Decides}
+use Rattle.std.proofs.lemmas.Bool.{false≢true}
+use Rattle.std.proofs.lemmas.Bool.Decides.{Decides-and, Decides-not, Decides-below_and, Decides-below_or}
+use Rattle.graph.specs.Square.{flagged}
 use Rattle.labels.specs.Bounded.{some_below, all_below, ◌implies◌}
+use Rattle.labels.specs.Judges.{meets, exceeds}
 
--- two tests that are true together are equal
-pub same_truth : (a b : Bool) → (a ≡ true → b ≡ true) → (b ≡ true → a ≡ true) → a ≡ b
-same_truth true b f h = sym (f refl)
-same_truth false true f h = h refl
-same_truth false false f h = refl
+pub itself : (b : Bool) → Decides b (b ≡ true)
+itself b = (λ t. t, λ t. t)
 
-pub untrue : (b : Bool) → (b ≢ true) → b ≡ false
-untrue true f = absurd (f refl)
-untrue false f = refl
+pub implies_tells : {P Q : Type 0} (a b : Bool) → Decides a P → Decides b Q → Decides (a implies b) (P → Q)
+implies_tells true b d e = (λ t p. e.0 t, λ f. e.1 (f (d.0 refl)))
+implies_tells false b d e = (λ t p. absurd (false≢true (d.1 p)), λ f. refl)
 
-pub some_found : (n : ℕ) (p : ℕ → Bool) → some_below n p ≡ true → (i : ℕ) × (i < n) × (p i ≡ true)
-some_found zero p h = absurd (false≢true h)
-some_found (suc n) p h =
-    elim (or_cases (p n) (some_below n p) h) [
-      | inl k ↦ (n, omega arith, k)
-      | inr k ↦ let x = some_found n p k in let lt = x.1 in (x.0, omega arith, x.2)
-    ]
+module _ (p : ℕ → Bool) (P : ℕ → Type 0) (each : (i : ℕ) → Decides (p i) (P i)) where
+  pub all_tells : (n : ℕ) → Decides (all_below n p) ((i : ℕ) → i < n → P i)
+  all_tells = Decides-below_and p P (λ n. all_below n p) each refl (λ n. refl)
 
-pub some_made : (n : ℕ) (p : ℕ → Bool) (i : ℕ) → i < n → p i ≡ true → some_below n p ≡ true
-some_made zero p i h t = absurd (let z : ⊥ = omega arith in z)
-some_made (suc n) p i h t =
-    elim (cases_eq i n) [
-      | inl e ↦ or_left (p n) (some_below n p) (subst (λ x. p x ≡ true) e t)
-      | inr ne ↦ or_right (p n) (some_below n p) (some_made n p i (omega arith) t)
-    ]
+  pub some_tells : (n : ℕ) → Decides (some_below n p) ((i : ℕ) × (i < n) × P i)
+  some_tells = Decides-below_or p P (λ n. some_below n p) each refl (λ n. refl)
 
-pub all_at : (n : ℕ) (p : ℕ → Bool) → all_below n p ≡ true → (i : ℕ) → i < n → p i ≡ true
-all_at zero p t i h = absurd (let z : ⊥ = omega arith in z)
-all_at (suc n) p t i h =
-    let both = and_parts (p n) (all_below n p) t in
-    elim (cases_eq i n) [ inl e ↦ subst (λ x. p x ≡ true) (sym e) both.0 | inr ne ↦ all_at n p both.1 i (omega arith) ]
+pub meets_tells : (m n : ℕ) → Decides (meets m n) ((i : ℕ) × (i < 16) × ((flagged m i ≡ true) × (flagged n i ≡ true)))
+unfolding meets
+meets_tells m n =
+    some_tells (λ i. flagged m i && flagged n i) (λ i. (flagged m i ≡ true) × (flagged n i ≡ true))
+    (λ i. Decides-and (flagged m i) (flagged n i) (itself (flagged m i)) (itself (flagged n i))) 16
 
-pub all_made : (n : ℕ) (p : ℕ → Bool) → ((i : ℕ) → i < n → p i ≡ true) → all_below n p ≡ true
-all_made zero p f = refl
-all_made (suc n) p f = and_from (p n) (all_below n p) (f n (omega arith)) (all_made n p (λ i h. f i (omega arith)))
-
-pub imply : (a b : Bool) → (a implies b) ≡ true → a ≡ true → b ≡ true
-imply true b t h = t
-imply false b t h = absurd (false≢true h)
-
-pub implied : (a b : Bool) → (a ≡ true → b ≡ true) → (a implies b) ≡ true
-implied true b f = f refl
-implied false b f = refl
+pub exceeds_tells : (m n : ℕ) → Decides (exceeds m n) ((i : ℕ) × (i < 16) × ((flagged m i ≡ true) × (flagged n i ≢ true)))
+unfolding exceeds
+exceeds_tells m n =
+    some_tells (λ i. flagged m i && not (flagged n i)) (λ i. (flagged m i ≡ true) × (flagged n i ≢ true))
+    (λ i. Decides-and (flagged m i) (not (flagged n i)) (itself (flagged m i)) (Decides-not (flagged n i) (itself (flagged n i)))) 16

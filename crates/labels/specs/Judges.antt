@@ -1,5 +1,7 @@
 -- What each test says of two vertices and their labels. Assumes nothing.
 use Rattle.std.specs.Prelude.{ℕ, Bool, true, false, not, ◌&&◌, ◌||◌, Some, None, Option, ◌==◌, nat_le, nat_lt}
+use Rattle.std.specs.declared.cmp.Ordering.{Ordering}
+use Rattle.std.specs.Ordering.{is_lt, is_gt, is_eq}
 use Rattle.graph.specs.Square.{flagged}
 use Rattle.labels.specs.declared.label.Row.{Row}
 use Rattle.labels.specs.declared.label.Label.{Label}
@@ -52,6 +54,14 @@ components s t a b = on_ground 3 (says (not (a.component == b.component)) No)
 abbrev pub levels : Judge
 levels s t a b = on_ground 4 (says (nat_le b.up a.up || nat_le a.down b.down) No)
 
+-- a row in its own direction, by the order in which each arc goes up, from one position to another
+abbrev pub along_row : {P : Type 0} → (cmp : P → P → Ordering) → (from : P) → (to : P) → (sure : P) → (far : P) → Option Verdict
+along_row cmp from to sure far =
+    first (says (is_lt (cmp to from)) No)
+    (first (says (not (is_gt (cmp to sure))) Yes)
+    (first (says (is_eq (cmp to far)) Yes)
+    (says (is_gt (cmp to far)) No)))
+
 -- a forward row, with the row x of s and the row y of t
 abbrev pub forward : Row → Row → Option Verdict
 forward x y =
@@ -68,14 +78,17 @@ backward x y =
     (first (says (x.position == y.far) Yes)
     (says (nat_lt x.position y.far) No)))
 
--- 5: the rows in turn
-abbrev pub orders : Judge
-orders s t a b =
-    on_ground 5
-    (first (forward (row a 0) (row b 0))
+-- the rows in turn, with the label a of s and the label b of t
+abbrev pub in_turn : Label → Label → Option Verdict
+in_turn a b =
+    first (forward (row a 0) (row b 0))
     (first (forward (row a 1) (row b 1))
     (first (backward (row a 2) (row b 2))
-    (backward (row a 3) (row b 3)))))
+    (backward (row a 3) (row b 3))))
+
+-- 5: the rows
+abbrev pub orders : Judge
+orders s t a b = on_ground 5 (in_turn a b)
 
 -- 6: a support between s and t; or one that reaches s and not t, or that t reaches and s does not
 abbrev pub supports : Judge

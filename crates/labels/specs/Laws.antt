@@ -1,5 +1,5 @@
 -- What a verdict claims, and the laws of a test. Assumes nothing.
-use Rattle.std.specs.Prelude.{◌≡◌, ℕ, ◌<◌, Some, None, Option, ◌≢◌}
+use Rattle.std.specs.Prelude.{◌≡◌, ℕ, ◌<◌, Option, IfSome, ◌≢◌}
 use Rattle.graph.specs.Model.{Model, Proper}
 use Rattle.graph.specs.Paths.{Reaches}
 use Rattle.labels.specs.declared.label.Label.{Label}
@@ -21,13 +21,11 @@ pub record Right (g : Model) (s t : ℕ) (d : Decision) : Type 0 where
 
 -- a decision, if there is one, is right
 abbrev pub RightIfAny : Model → ℕ → ℕ → Option Decision → Type 0
-RightIfAny g s t None = Unit {0}
-RightIfAny g s t (Some d) = Right g s t d
+RightIfAny g s t o = IfSome o (Right g s t)
 
 -- a decision, if there is one, names a test by a number above 0
 abbrev pub NumberedIfAny : Option Decision → Type 0
-NumberedIfAny None = Unit {0}
-NumberedIfAny (Some d) = 0 < d.ground
+NumberedIfAny o = IfSome o (λ d. 0 < d.ground)
 
 -- whatever is decided, on any labels, carries a number above 0
 abbrev pub Numbered : Judge → Type 0

@@ -6,7 +6,7 @@ use Rattle.std.proofs.Math.Decide.{dec_lt}
 use Rattle.graph.specs.Model.{Model, Proper}
 use Rattle.graph.specs.Paths.{Path, stay, walk, Reaches}
 use Rattle.graph.proofs.Paths.{join_paths}
-use Rattle.labels.specs.Rising.{Rising}
+use Rattle.labels.specs.Rising.{Rising, by_place}
 
 abbrev pub Alone : Model → (ℕ → ℕ) → Type 0
 Alone g place = (v w : ℕ) → v < g.order → w < g.order → place w ≡ place v → w ≡ v
@@ -24,22 +24,17 @@ abbrev pub Sourced : Model → (ℕ → Type 0) → ℕ → Type 0
 Sourced g mark source = (v : ℕ) → v < g.order → mark v → ∥ (source ≡ v) ⊎ ((u : ℕ) × (g.arc u v ≡ true) × mark u) ∥₁
 
 module _ (g : Model) (proper : Proper g) (place : ℕ → ℕ) (rises : Rising g place) where
-  fed_go :
-      Alone g place → (v m : ℕ) → v < g.order → Fed g place v m
-      → (k w : ℕ) → w < g.order → place w < k → place v ≤ place w → place w ≤ m → Reaches g v w
-  fed_go alone v m hv fed zero w hw lt low high = absurd (omega arith)
-  fed_go alone v m hv fed (suc k) w hw lt low high =
-      let rec : (u : ℕ) → u < g.order → place u < k → place v ≤ place u → place u ≤ m → Reaches g v u = fed_go alone v m hv fed k in
+  pub fed_reached : Alone g place → (v m : ℕ) → v < g.order → Fed g place v m → (w : ℕ) → w < g.order → place v ≤ place w → place w ≤ m → Reaches g v w
+  fed_reached alone v m hv fed =
+      by_place g place (λ w. place v ≤ place w → place w ≤ m → Reaches g v w) (λ w hw lower low high.
       elim (dec_lt (place v) (place w)) [
         | yes h ↦ ∥∥₁_elim (fed w hw h high) ∥∥₁_prop (λ (u, a, below).
             let up : place u < place w = rises u w a in
-            ∥∥₁_map (rec u (proper.within u w a).0 (omega arith) below (omega arith)) (λ p. join_paths p (walk a stay)))
+            ∥∥₁_map (lower u (proper.within u w a).0 up below (omega arith)) (λ p. join_paths p (walk a stay)))
         | no h ↦ let e : w ≡ v = alone v w hv hw (omega arith) in ∣ subst (λ x. Path g v x) (sym e) stay ∣₁
-      ]
+      ])
 
-  pub fed_reached : Alone g place → (v m : ℕ) → v < g.order → Fed g place v m → (w : ℕ) → w < g.order → place v ≤ place w → place w ≤ m → Reaches g v w
-  fed_reached alone v m hv fed w hw low high = fed_go alone v m hv fed (suc (place w)) w hw (omega arith) low high
-
+  -- far v is the place of a vertex that v reaches
   handed_go :
       (far : ℕ → ℕ) → Handed g place far → (bound : ℕ) → ((v : ℕ) → v < g.order → place v < bound)
       → (k v : ℕ) → v < g.order → bound ≤ place v + k → ∥ ((w : ℕ) × (w < g.order) × Path g v w × (place w ≡ far v)) ∥₁
@@ -59,16 +54,11 @@ module _ (g : Model) (proper : Proper g) (place : ℕ → ℕ) (rises : Rising g
   handed_reached alone far handed bound below v w hv hw e =
       ∥∥₁_map (handed_go far handed bound below bound v hv (omega arith)) (λ (x, hx, p, f). subst (λ y. Path g v y) (alone w x hw hx (f ∙ sym e)) p)
 
-  sourced_go : (mark : ℕ → Type 0) (source : ℕ) → Sourced g mark source → (k v : ℕ) → v < g.order → place v < k → mark v → Reaches g source v
-  sourced_go mark source sourced zero v hv h m = absurd (omega arith)
-  sourced_go mark source sourced (suc k) v hv h m =
-      let rec : (u : ℕ) → u < g.order → place u < k → mark u → Reaches g source u = sourced_go mark source sourced k in
-      ∥∥₁_elim (sourced v hv m) ∥∥₁_prop (elim [
-        | inl e ↦ ∣ subst (λ x. Path g source x) e stay ∣₁
-        | inr x ↦ let up : place x.0 < place v = rises x.0 v x.1 in
-            ∥∥₁_map (rec x.0 (proper.within x.0 v x.1).0 (omega arith) x.2) (λ p. join_paths p (walk x.1 stay))
-      ])
-
   -- a marked vertex is reached from the source
   pub sourced_reached : (mark : ℕ → Type 0) (source : ℕ) → Sourced g mark source → (v : ℕ) → v < g.order → mark v → Reaches g source v
-  sourced_reached mark source sourced v hv m = sourced_go mark source sourced (suc (place v)) v hv (omega arith) m
+  sourced_reached mark source sourced =
+      by_place g place (λ v. mark v → Reaches g source v) (λ v hv lower m.
+      ∥∥₁_elim (sourced v hv m) ∥∥₁_prop (elim [
+        | inl e ↦ ∣ subst (λ x. Path g source x) e stay ∣₁
+        | inr x ↦ ∥∥₁_map (lower x.0 (proper.within x.0 v x.1).0 (rises x.0 v x.1) x.2) (λ p. join_paths p (walk x.1 stay))
+      ]))

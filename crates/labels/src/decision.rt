@@ -1,6 +1,5 @@
 // What a test answers when it does not pass.
 ghost use Rattle.std.specs.Prelude.{◌≡◌};
-ghost use Rattle.labels.specs.declared.decision.Verdict.TheVariants.{Yes, No};
 
 // Whether one vertex reaches another.
 #[derive(Clone, Copy, PartialEq, Eq, Debug)]
@@ -11,30 +10,20 @@ pub enum Verdict {
     No,
 }
 
-// A verdict, and the number of the single test that gave it.
+// A verdict, and the number of the single test that gave it: a number and no enum, since each caller's test brings its own.
 #[derive(Clone, Copy, PartialEq, Eq, Debug)]
 pub struct Decision {
     pub verdict: Verdict,
     pub ground: u16,
 }
 
-impl Decision {
-    // Yes, by the test of this number.
-    pub fn yes(ground: u16) -> Decision
-        ensures { result ≡ record { verdict = Yes; ground = ground } }
+impl Verdict {
+    // This verdict, given by the test of that number.
+    pub fn on(self, ground: u16) -> Decision
+        ensures { result ≡ record { verdict = self; ground = ground } }
     {
         Decision {
-            verdict: Verdict::Yes,
-            ground,
-        }
-    }
-
-    // No, by the test of this number.
-    pub fn no(ground: u16) -> Decision
-        ensures { result ≡ record { verdict = No; ground = ground } }
-    {
-        Decision {
-            verdict: Verdict::No,
+            verdict: self,
             ground,
         }
     }

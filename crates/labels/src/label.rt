@@ -32,8 +32,15 @@ pub struct Label {
     pub to: u16,
 }
 
+// A vertex with its label.
+#[derive(Clone, Copy, PartialEq, Eq, Debug)]
+pub struct Labelled {
+    pub vertex: u16,
+    pub label: Label,
+}
+
 impl Label {
-    // The label of zeros.
+    // The label of zeros, as a constant too, for tables of labels.
     pub const ZERO: Label = Label {
         rows: [Row {
             position: 0,
@@ -46,11 +53,12 @@ impl Label {
         from: 0,
         to: 0,
     };
+}
 
-    // The label of zeros.
-    pub fn new() -> Label
-        ensures { result ≡ zero_label }
-    {
+impl Default for Label {
+    ghost is_default = { λ label. label ≡ zero_label };
+
+    fn default() -> Label {
         Label::ZERO
     }
 }

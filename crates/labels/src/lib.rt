@@ -14,7 +14,7 @@ mod tests;
 mod theorems;
 
 pub use decision::{Decision, Verdict};
-pub use label::{Label, Row};
+pub use label::{Label, Labelled, Row};
 pub use orders::Orders;
 pub use plain::{Components, Ends, Levels, Same};
 pub use rule::Rule;

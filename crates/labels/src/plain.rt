@@ -3,8 +3,8 @@ ghost use Rattle.labels.specs.Judges.{same, ends, components, levels};
 ghost use Rattle.std.proofs.Common.{rules};
 ghost use Rattle.labels.specs.Lawful.{ends_lawful, components_lawful, levels_lawful};
 
-use crate::decision::Decision;
-use crate::label::Label;
+use crate::decision::{Decision, Verdict};
+use crate::label::Labelled;
 use crate::test::Test;
 
 // Test 1: a vertex reaches itself.
@@ -18,8 +18,12 @@ impl Test for Same {
 
     ghost numbered = { Prim.search rules };
 
-    fn judge(&self, s: u16, t: u16, at_s: Label, at_t: Label) -> Option<Decision> {
-        if s == t { Some(Decision::yes(1)) } else { None }
+    fn judge(&self, s: Labelled, t: Labelled) -> Option<Decision> {
+        if s.vertex == t.vertex {
+            Some(Verdict::Yes.on(1))
+        } else {
+            None
+        }
     }
 }
 
@@ -34,9 +38,9 @@ impl Test for Ends {
 
     ghost numbered = { Prim.search rules };
 
-    fn judge(&self, s: u16, t: u16, at_s: Label, at_t: Label) -> Option<Decision> {
-        if at_s.down == 0 || at_t.up == 0 {
-            Some(Decision::no(2))
+    fn judge(&self, s: Labelled, t: Labelled) -> Option<Decision> {
+        if s.label.down == 0 || t.label.up == 0 {
+            Some(Verdict::No.on(2))
         } else {
             None
         }
@@ -54,9 +58,9 @@ impl Test for Components {
 
     ghost numbered = { Prim.search rules };
 
-    fn judge(&self, s: u16, t: u16, at_s: Label, at_t: Label) -> Option<Decision> {
-        if at_s.component != at_t.component {
-            Some(Decision::no(3))
+    fn judge(&self, s: Labelled, t: Labelled) -> Option<Decision> {
+        if s.label.component != t.label.component {
+            Some(Verdict::No.on(3))
         } else {
             None
         }
@@ -74,9 +78,9 @@ impl Test for Levels {
 
     ghost numbered = { Prim.search rules };
 
-    fn judge(&self, s: u16, t: u16, at_s: Label, at_t: Label) -> Option<Decision> {
-        if at_s.up >= at_t.up || at_s.down <= at_t.down {
-            Some(Decision::no(4))
+    fn judge(&self, s: Labelled, t: Labelled) -> Option<Decision> {
+        if s.label.up >= t.label.up || s.label.down <= t.label.down {
+            Some(Verdict::No.on(4))
         } else {
             None
         }

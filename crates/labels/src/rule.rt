@@ -21,12 +21,12 @@ pub enum Rule {
     SupportBits,
 }
 
-impl Rule {
-    // The number of the rule, from 1 to 7.
-    pub fn number(self) -> u16
-        ensures { result ≡ rule_number self }
-    {
-        match self {
+// The number of a rule, from 1 to 7.
+impl From<Rule> for u16 {
+    ghost from_gives = { λ rule n. n ≡ rule_number rule };
+
+    fn from(rule: Rule) -> u16 {
+        match rule {
             Rule::Positions => 1,
             Rule::Arcs => 2,
             Rule::Sures => 3,

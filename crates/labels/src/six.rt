@@ -4,13 +4,14 @@ ghost use Rattle.labels.specs.Judges.{six};
 ghost use Rattle.labels.specs.Laws.{NumberedIfAny, RightOnRules};
 
 use crate::decision::Decision;
-use crate::label::Label;
+use crate::label::Labelled;
 use crate::orders::Orders;
 use crate::plain::{Components, Ends, Levels, Same};
 use crate::supports::Supports;
 use crate::test::{OrElse, decide};
 
 // The six tests in their order: the first that decides ends the question.
+// Pairs within pairs, so that the laws of `OrElse` are the laws of the whole.
 pub type SixTests = OrElse<
     Same,
     OrElse<Ends, OrElse<Components, OrElse<Levels, OrElse<Orders, Supports>>>>,
@@ -33,11 +34,11 @@ pub const SIX_TESTS: SixTests = OrElse {
     },
 };
 
-// What the six tests say of s and t with their labels, with what the laws promise of that.
-pub fn judge_by_six(s: u16, t: u16, at_s: Label, at_t: Label) -> Option<Decision>
-    ensures said { result ≡ six s t at_s at_t }
-    ensures right { RightOnRules s t at_s at_t result }
+// What the six tests say of s and t, with what the laws promise of that.
+pub fn judge_by_six(s: Labelled, t: Labelled) -> Option<Decision>
+    ensures said { result ≡ six s.vertex t.vertex s.label t.label }
+    ensures right { RightOnRules s.vertex t.vertex s.label t.label result }
     ensures number { NumberedIfAny result }
 {
-    decide(&SIX_TESTS, s, t, at_s, at_t)
+    decide(&SIX_TESTS, s, t)
 }

@@ -4,8 +4,8 @@ ghost use Rattle.labels.specs.Judges.{supports, meets, exceeds};
 ghost use Rattle.labels.specs.Lawful.{supports_lawful};
 ghost use Rattle.std.proofs.Common.{rules};
 
-use crate::decision::Decision;
-use crate::label::Label;
+use crate::decision::{Decision, Verdict};
+use crate::label::Labelled;
 use crate::test::Test;
 
 // Some bit is set in both.
@@ -33,11 +33,11 @@ impl Test for Supports {
 
     ghost numbered = { Prim.search rules };
 
-    fn judge(&self, s: u16, t: u16, at_s: Label, at_t: Label) -> Option<Decision> {
-        if bits_meet(at_s.to, at_t.from) {
-            Some(Decision::yes(6))
-        } else if bits_exceed(at_s.from, at_t.from) || bits_exceed(at_t.to, at_s.to) {
-            Some(Decision::no(6))
+    fn judge(&self, s: Labelled, t: Labelled) -> Option<Decision> {
+        if bits_meet(s.label.to, t.label.from) {
+            Some(Verdict::Yes.on(6))
+        } else if bits_exceed(s.label.from, t.label.from) || bits_exceed(t.label.to, s.label.to) {
+            Some(Verdict::No.on(6))
         } else {
             None
         }

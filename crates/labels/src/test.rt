@@ -6,15 +6,15 @@ ghost use Rattle.labels.specs.Lawful.{or_else_lawful};
 ghost use Rattle.std.proofs.Common.{rules};
 
 use crate::decision::Decision;
-use crate::label::Label;
+use crate::label::Labelled;
 
 pub trait Test {
     // What the test says of two vertices with their labels.
     ghost judges: { Self → Judge };
 
     // Whether s reaches t, as far as their labels tell; None is a pass.
-    fn judge(&self, s: u16, t: u16, at_s: Label, at_t: Label) -> Option<Decision>
-        ensures { result ≡ judges self.now s t at_s at_t };
+    fn judge(&self, s: Labelled, t: Labelled) -> Option<Decision>
+        ensures { result ≡ judges self.now s.vertex t.vertex s.label t.label };
 
     // On labels that meet the rules, a yes or no on two different vertices is right.
     ghost lawful: { (x : Self) → Lawful (judges x) };
@@ -37,19 +37,20 @@ impl<A: Test, B: Test> Test for OrElse<A, B> {
 
     ghost numbered = { Prim.search rules };
 
-    fn judge(&self, s: u16, t: u16, at_s: Label, at_t: Label) -> Option<Decision> {
-        if let Some(decision) = self.first.judge(s, t, at_s, at_t) {
+    // An if-let on the first verdict, so that the second test is not asked where the first decides.
+    fn judge(&self, s: Labelled, t: Labelled) -> Option<Decision> {
+        if let Some(decision) = self.first.judge(s, t) {
             return Some(decision);
         }
-        self.second.judge(s, t, at_s, at_t)
+        self.second.judge(s, t)
     }
 }
 
 // What any test says, with what its laws promise of that.
-pub fn decide<T: Test>(test: &T, s: u16, t: u16, at_s: Label, at_t: Label) -> Option<Decision>
-    ensures said { result ≡ T.judges test.now s t at_s at_t }
-    ensures right { RightOnRules s t at_s at_t result }
+pub fn decide<T: Test>(test: &T, s: Labelled, t: Labelled) -> Option<Decision>
+    ensures said { result ≡ T.judges test.now s.vertex t.vertex s.label t.label }
+    ensures right { RightOnRules s.vertex t.vertex s.label t.label result }
     ensures number { NumberedIfAny result }
 {
-    test.judge(s, t, at_s, at_t)
+    test.judge(s, t)
 }

@@ -1,6 +1,6 @@
 // The six tests on two labels that none of them decides, changed so that one of them does.
-use crate::decision::Decision;
-use crate::label::{Label, Row};
+use crate::decision::{Decision, Verdict};
+use crate::label::{Label, Labelled, Row};
 use crate::rule::Rule;
 use crate::six::judge_by_six;
 
@@ -33,7 +33,16 @@ const T: Label = Label {
 };
 
 fn said(at_s: Label, at_t: Label) -> Option<Decision> {
-    judge_by_six(0, 1, at_s, at_t)
+    judge_by_six(
+        Labelled {
+            vertex: 0,
+            label: at_s,
+        },
+        Labelled {
+            vertex: 1,
+            label: at_t,
+        },
+    )
 }
 
 #[test]
@@ -44,8 +53,17 @@ fn all_pass(rt: HostRuntime) {
 #[test]
 fn a_vertex_reaches_itself(rt: HostRuntime) {
     assert_eq!(rt;
-        judge_by_six(7, 7, Label::new(), Label::ZERO),
-        Some(Decision::yes(1))
+        judge_by_six(
+            Labelled {
+                vertex: 7,
+                label: Label::default(),
+            },
+            Labelled {
+                vertex: 7,
+                label: Label::ZERO,
+            },
+        ),
+        Some(Verdict::Yes.on(1))
     );
 }
 
@@ -60,9 +78,9 @@ fn ends_before_components(rt: HostRuntime) {
             },
             T,
         ),
-        Some(Decision::no(2))
+        Some(Verdict::No.on(2))
     );
-    assert_eq!(rt; said(S, Label { up: 0, ..T }), Some(Decision::no(2)));
+    assert_eq!(rt; said(S, Label { up: 0, ..T }), Some(Verdict::No.on(2)));
 }
 
 #[test]
@@ -76,7 +94,7 @@ fn components_before_levels(rt: HostRuntime) {
             },
             T,
         ),
-        Some(Decision::no(3))
+        Some(Verdict::No.on(3))
     );
 }
 
@@ -85,9 +103,9 @@ fn levels_before_orders(rt: HostRuntime) {
     let rows = S.rows;
     assert_eq!(rt;
         said(Label { up: 1, ..S }, Label { rows, ..T }),
-        Some(Decision::no(4))
+        Some(Verdict::No.on(4))
     );
-    assert_eq!(rt; said(S, Label { down: 1, ..T }), Some(Decision::no(4)));
+    assert_eq!(rt; said(S, Label { down: 1, ..T }), Some(Verdict::No.on(4)));
 }
 
 #[test]
@@ -116,7 +134,7 @@ fn orders_in_forward_rows(rt: HostRuntime) {
                 ..T
             },
         ),
-        Some(Decision::no(5))
+        Some(Verdict::No.on(5))
     );
     assert_eq!(rt;
         said(
@@ -126,7 +144,7 @@ fn orders_in_forward_rows(rt: HostRuntime) {
             },
             T,
         ),
-        Some(Decision::yes(5))
+        Some(Verdict::Yes.on(5))
     );
     assert_eq!(rt;
         said(
@@ -136,7 +154,7 @@ fn orders_in_forward_rows(rt: HostRuntime) {
             },
             T,
         ),
-        Some(Decision::yes(5))
+        Some(Verdict::Yes.on(5))
     );
 }
 
@@ -161,7 +179,7 @@ fn orders_in_backward_rows(rt: HostRuntime) {
                 ..T
             },
         ),
-        Some(Decision::yes(5))
+        Some(Verdict::Yes.on(5))
     );
     assert_eq!(rt;
         said(
@@ -171,7 +189,7 @@ fn orders_in_backward_rows(rt: HostRuntime) {
                 ..T
             },
         ),
-        Some(Decision::no(5))
+        Some(Verdict::No.on(5))
     );
 }
 
@@ -186,7 +204,7 @@ fn supports_come_last(rt: HostRuntime) {
             },
             Label { from: 4, ..T },
         ),
-        Some(Decision::yes(6))
+        Some(Verdict::Yes.on(6))
     );
     assert_eq!(rt;
         said(
@@ -197,13 +215,13 @@ fn supports_come_last(rt: HostRuntime) {
             },
             T,
         ),
-        Some(Decision::no(6))
+        Some(Verdict::No.on(6))
     );
-    assert_eq!(rt; said(S, Label { to: 32768, ..T }), Some(Decision::no(6)));
+    assert_eq!(rt; said(S, Label { to: 32768, ..T }), Some(Verdict::No.on(6)));
 }
 
 #[test]
 fn rules_are_numbered(rt: HostRuntime) {
-    assert_eq!(rt; Rule::Positions.number(), 1);
-    assert_eq!(rt; Rule::SupportBits.number(), 7);
+    assert_eq!(rt; u16::from(Rule::Positions), 1);
+    assert_eq!(rt; u16::from(Rule::SupportBits), 7);
 }
