@@ -1,22 +1,29 @@
--- The permitted form of a line tells the line, by its keyword and its numbers. Assumes nothing.
-use Rattle.std.proofs.Common.{◌≡◌, ℕ, List, Some, None, decimal, Option, sym, refl, ap, ◌∙◌, subst, arith, rules, MatchOption}
-use Rattle.lines.specs.declared.Kind.{Kind}
+-- The permitted form of a line: its keyword, the sign and its numbers, and the line that they tell. Assumes nothing.
+use Rattle.std.proofs.Common.{◌≡◌, ℕ, ◌^◌, ◌<◌, List, Some, None, codes, decimal, Option, Result, Ok, Err, sym, refl, ap, ◌∙◌, subst, arith, rules, MatchOption, MatchResult, Bor}
+use Rattle.std.specs.Int.{IsInRange}
+use Rattle.std.specs.List.{All}
+use Rattle.std.specs.Result.{result_ok}
+use Rattle.std.specs.Str.{IsUtf8}
+use Rattle.std.proofs.lemmas.List.Elements.{All-from_recursion, All-cons, All-append, All-weaker}
+use Rattle.std.proofs.lemmas.Str.{IsUtf8-from_ascii}
+use Rattle.std.proofs.lemmas.Str.Ascii.{IsAscii-from_all}
 use Rattle.lines.specs.declared.Line.{Line}
 use Rattle.lines.specs.declared.Line.TheVariants.{Library, Papers, Arc, End, Ask, Trace, Under}
-use Rattle.lines.specs.Forms.{decimal_pair, written, Fits, Writes, WritesNone, ParsesTo}
-use Rattle.lines.specs.Parts.{keyword, equals_sign, form, Lacks, SplitsAt}
-use Rattle.lines.proofs.Splits.{same_split, not_lacked, lacks_by_test}
-use Rattle.lines.proofs.Numbers.{same_number}
+use Rattle.lines.specs.Forms.{comma, decimal_pair, written, Fits, Writes, WritesNone, ParsesTo}
+use Rattle.lines.specs.Parts.{equals_sign, form}
+use Rattle.lines.proofs.Splits.{same_front, lacks_outside}
+use Rattle.lines.proofs.Numbers.{decimal_digits, same_number}
 use Rattle.lines.proofs.Pairs.{same_pair}
 
-abbrev pub kind : Line → Kind
-kind (Library n) = Kind.Library
-kind (Papers n) = Kind.Papers
-kind (Arc u v) = Kind.Arc
-kind (End n) = Kind.End
-kind (Ask s t) = Kind.Ask
-kind (Trace s t) = Kind.Trace
-kind (Under s) = Kind.Under
+-- the word that a line begins with
+abbrev pub keyword : Line → List ℕ
+keyword (Library n) = codes "library"
+keyword (Papers n) = codes "papers"
+keyword (Arc u v) = codes "arc"
+keyword (End n) = codes "end"
+keyword (Ask s t) = codes "ask"
+keyword (Trace s t) = codes "trace"
+keyword (Under s) = codes "under"
 
 -- what follows the sign
 abbrev numbers : Line → List ℕ
@@ -28,7 +35,7 @@ numbers (Ask s t) = decimal_pair s t
 numbers (Trace s t) = decimal_pair s t
 numbers (Under s) = decimal s
 
-in_parts : (l : Line) → written l ≡ form (kind l) (numbers l)
+in_parts : (l : Line) → written l ≡ form (keyword l) (numbers l)
 in_parts (Library n) = refl
 in_parts (Papers n) = refl
 in_parts (Arc u v) = refl
@@ -37,22 +44,63 @@ in_parts (Ask s t) = refl
 in_parts (Trace s t) = refl
 in_parts (Under s) = refl
 
-keyword_lacks : (k : Kind) → Lacks (keyword k) equals_sign
-keyword_lacks Kind.Library = lacks_by_test equals_sign (keyword Kind.Library) refl
-keyword_lacks Kind.Papers = lacks_by_test equals_sign (keyword Kind.Papers) refl
-keyword_lacks Kind.Arc = lacks_by_test equals_sign (keyword Kind.Arc) refl
-keyword_lacks Kind.End = lacks_by_test equals_sign (keyword Kind.End) refl
-keyword_lacks Kind.Ask = lacks_by_test equals_sign (keyword Kind.Ask) refl
-keyword_lacks Kind.Trace = lacks_by_test equals_sign (keyword Kind.Trace) refl
-keyword_lacks Kind.Under = lacks_by_test equals_sign (keyword Kind.Under) refl
+-- a keyword is made of small letters
+keyword_letters : (l : Line) → All (IsInRange 97 122) (keyword l)
+keyword_letters (Library n) = All-from_recursion (IsInRange 97 122) (codes "library") (search rules)
+keyword_letters (Papers n) = All-from_recursion (IsInRange 97 122) (codes "papers") (search rules)
+keyword_letters (Arc u v) = All-from_recursion (IsInRange 97 122) (codes "arc") (search rules)
+keyword_letters (End n) = All-from_recursion (IsInRange 97 122) (codes "end") (search rules)
+keyword_letters (Ask s t) = All-from_recursion (IsInRange 97 122) (codes "ask") (search rules)
+keyword_letters (Trace s t) = All-from_recursion (IsInRange 97 122) (codes "trace") (search rules)
+keyword_letters (Under s) = All-from_recursion (IsInRange 97 122) (codes "under") (search rules)
 
-pub no_sign : (bytes : List ℕ) → Lacks bytes equals_sign → WritesNone bytes
-no_sign bytes p l w = not_lacked equals_sign (keyword (kind l)) (numbers l) (subst (λ t. Lacks t equals_sign) (w.text ∙ in_parts l) p)
+-- what follows the sign is made of digits and commas
+one_number : (n : ℕ) → n < 2 ^ 16 → All (IsInRange 44 57) (decimal n)
+one_number n h = All-weaker (IsInRange 48 57) (IsInRange 44 57) (λ x p. (omega arith, p.1)) (decimal n) (decimal_digits n h)
 
--- the parts of the form of l, split at the sign
-pub split_form : (bytes word value : List ℕ) (l : Line) → SplitsAt bytes equals_sign word value → Writes bytes l → (word ≡ keyword (kind l)) × (value ≡ numbers l)
-split_form bytes word value l p w =
-    same_split equals_sign word (keyword (kind l)) value (numbers l) p.first (keyword_lacks (kind l)) (sym p.whole ∙ w.text ∙ in_parts l)
+two_numbers : (m n : ℕ) → (m < 2 ^ 16) × (n < 2 ^ 16) → All (IsInRange 44 57) (decimal_pair m n)
+two_numbers m n h = All-append (IsInRange 44 57) (decimal m) _ (one_number m h.0) (All-cons (IsInRange 44 57) comma (decimal n) (omega arith, omega arith) (one_number n h.1))
+
+numbers_bytes : (l : Line) → Fits l → All (IsInRange 44 57) (numbers l)
+numbers_bytes (Library n) f = one_number n f
+numbers_bytes (Papers n) f = one_number n f
+numbers_bytes (Arc u v) f = two_numbers u v f
+numbers_bytes (End n) f = one_number n f
+numbers_bytes (Ask s t) f = two_numbers s t f
+numbers_bytes (Trace s t) f = two_numbers s t f
+numbers_bytes (Under s) f = one_number s f
+
+-- so the whole line is made of bytes from the comma to the letter z
+pub written_bytes : (l : Line) → Fits l → All (IsInRange 44 122) (written l)
+written_bytes l f =
+    let word = All-weaker (IsInRange 97 122) (IsInRange 44 122) (λ x p. (omega arith, p.1)) (keyword l) (keyword_letters l) in
+    let value = All-weaker (IsInRange 44 57) (IsInRange 44 122) (λ x p. (p.0, omega arith)) (numbers l) (numbers_bytes l f) in
+    rw (in_parts l) (All-append (IsInRange 44 122) (keyword l) _ word (All-cons (IsInRange 44 122) equals_sign (numbers l) (omega arith, omega arith) value))
+
+-- a word that is no keyword begins no line
+pub no_keyword : (word value : List ℕ) → ((l : Line) → word ≡ keyword l → ⊥) → WritesNone (form word value)
+no_keyword word value none l w =
+    none l
+    (same_front equals_sign word (keyword l) value (numbers l) (lacks_outside 97 122 equals_sign (keyword l) (keyword_letters l) (λ p. omega arith))
+    (lacks_outside 44 57 equals_sign (numbers l) (numbers_bytes l w.fits) (λ p. omega arith)) (w.text ∙ in_parts l))
+
+not_both : {A : Type 0} (x : A) → Some x ≡ None → ⊥
+not_both x e = let z : ◌≡◌ {A = ℕ} 0 1 = cc in omega arith
+
+-- a line is text, so bytes that are no text are no line
+no_text : (bytes : List ℕ) → (IsUtf8 bytes → ⊥) → WritesNone bytes
+no_text bytes n l w =
+    n (rw w.text (IsUtf8-from_ascii _ (IsAscii-from_all _ (All-weaker (IsInRange 44 122) (λ b. b < 128) (λ x p. omega arith) (written l) (written_bytes l w.fits)))))
+
+-- what `from_utf8` answers of bytes
+module _ {E : Type 0} (Q : E → Type 0) (bytes : List ℕ) where
+  pub no_line : (r : Result (Bor (List ℕ)) E) → MatchResult r (λ s. (s.now ≡ bytes) × IsUtf8 bytes) (λ e. (IsUtf8 bytes → ⊥) × Q e) → result_ok r ≡ None → WritesNone bytes
+  no_line (Ok s) h e = absurd (not_both s e)
+  no_line (Err x) h e = no_text bytes h.0
+
+  pub same_bytes : (r : Result (Bor (List ℕ)) E) (text : Bor (List ℕ)) → MatchResult r (λ s. (s.now ≡ bytes) × IsUtf8 bytes) (λ e. (IsUtf8 bytes → ⊥) × Q e) → result_ok r ≡ Some text → bytes ≡ text.now
+  same_bytes (Ok s) text h e = let same : s ≡ text = cc in sym h.0 ∙ ap (λ t. t.now) same
+  same_bytes (Err x) text h e = absurd (not_both text (sym e))
 
 -- two lines of one form are the same
 pub same_line : (l m : Line) → Fits l → Fits m → written l ≡ written m → l ≡ m
@@ -63,9 +111,6 @@ same_line (End n) m f g e = search (rules, same_number)
 same_line (Ask s t) m f g e = search (rules, same_pair)
 same_line (Trace s t) m f g e = search (rules, same_pair)
 same_line (Under s) m f g e = search (rules, same_number)
-
-not_both : {A : Type 0} (x : A) → Some x ≡ None → ⊥
-not_both x e = let z : ◌≡◌ {A = ℕ} 0 1 = cc in omega arith
 
 parses_to_some : (bytes : List ℕ) (l : Line) → Writes bytes l → ParsesTo bytes (Some l)
 parses_to_some bytes l w = record {

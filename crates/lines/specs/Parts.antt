@@ -1,35 +1,18 @@
 -- The parts of a line: its keyword, and the numbers that follow. Assumes nothing.
-use Rattle.std.specs.Prelude.{◌≡◌, ℕ, ◌^◌, ◌<◌, List, ◌∷◌, ◌++◌, length, codes, decimal, ◌≢◌, slice_index}
-use Rattle.lines.specs.declared.Kind.{Kind}
+use Rattle.std.specs.Prelude.{◌≡◌, ℕ, ◌^◌, ◌<◌, List, ◌∷◌, ◌++◌, length, decimal, ◌≢◌, slice_index}
 use Rattle.lines.specs.Forms.{decimal_pair}
-
--- the word that a line of this kind begins with
-abbrev pub keyword : Kind → List ℕ
-keyword Kind.Library = codes "library"
-keyword Kind.Papers = codes "papers"
-keyword Kind.Arc = codes "arc"
-keyword Kind.End = codes "end"
-keyword Kind.Ask = codes "ask"
-keyword Kind.Trace = codes "trace"
-keyword Kind.Under = codes "under"
 
 -- the byte between the keyword and what follows
 abbrev pub equals_sign : ℕ
 equals_sign = 61
 
--- the bytes of a line of this kind with value after the sign
-abbrev pub form : Kind → List ℕ → List ℕ
-form kind value = keyword kind ++ equals_sign ∷ value
+-- the bytes of a line with word before the sign and value after it
+abbrev pub form : List ℕ → List ℕ → List ℕ
+form word value = word ++ equals_sign ∷ value
 
 -- the byte b stands nowhere in bytes
 abbrev pub Lacks : List ℕ → ℕ → Type 0
 Lacks bytes b = (k : ℕ) → k < length bytes → slice_index bytes k ≢ b
-
--- i is the first place of b in bytes
-pub record FirstPlace (bytes : List ℕ) (b i : ℕ) : Type 0 where
-  pub within : i < length bytes
-  pub here : slice_index bytes i ≡ b
-  pub before : (k : ℕ) → k < i → slice_index bytes k ≢ b
 
 -- front and back are what stands before and after the first b in bytes
 pub record SplitsAt (bytes : List ℕ) (b : ℕ) (front back : List ℕ) : Type 0 where

@@ -1,10 +1,13 @@
 // The lines of a collection file: their permitted forms, and a reader that takes an input apart into lines.
 #![tactic(auto)]
 
-ghost use Rattle.std.specs.Prelude.{◌≡◌, ℕ, ◌<◌, T, ◌↔◌, length, MatchOption, ◌≢◌, slice_index};
+ghost use Rattle.std.specs.Prelude.{◌≡◌, ℕ, ◌<◌, IsTrue, ◌↔◌, length, MatchOption, slice_index, Some, codes};
 ghost use Rattle.lines.specs.Forms.{ParsesTo, Writes, WritesNone};
-ghost use Rattle.lines.specs.Parts.{FirstPlace, form, keyword, Lacks, SplitsAt, WritesNumber, WritesPair};
-ghost use Rattle.lines.specs.Reading.{unread, Steps};
+ghost use Rattle.lines.specs.Parts.{form, Lacks, SplitsAt, WritesNumber, WritesPair};
+ghost use Rattle.lines.specs.Reading.{line_feed, unread, Steps};
+
+use std::error::Error;
+use std::fmt;
 
 // A line, whose permitted form is a keyword, `=`, and one number or two with a comma between them: `library=L`,
 // `papers=N`, `arc=U,V`, `end=M`, `ask=S,T`, `trace=S,T` and `under=S`. The numbers are decimal, from 0 to 65,535, with
@@ -21,136 +24,78 @@ pub enum Line {
 }
 
 // The line whose permitted form `bytes` are, without the line feed; `None` where no line has that form.
+// (A function alone: `TryFrom` would say the same under a second name.)
 pub fn parse_line(bytes: &[u8]) -> Option<Line>
     ensures { ParsesTo bytes.now result }
 {
-    let (word, value) = split_at_first(bytes, b'=')?;
-    let kind = kind_of(word)?;
-    parse_value(kind, value)
+    let (word, value) = str::from_utf8(bytes).ok()?.split_once('=')?;
+    parse_value(word, value)
 }
 
-// The kinds of lines, one for each keyword.
-#[derive(Clone, Copy)]
-enum Kind {
-    Library,
-    Papers,
-    Arc,
-    End,
-    Ask,
-    Trace,
-    Under,
-}
-
-// The kind of line whose keyword is `word`.
-fn kind_of(word: &[u8]) -> Option<Kind>
-    ensures { MatchOption result ((k : Kind) → word.now ≢ keyword k) (λ k. word.now ≡ keyword k) }
+// The line that has `word` before the sign `=` and `value` after it.
+fn parse_value(word: &str, value: &str) -> Option<Line>
+    ensures { MatchOption result (WritesNone (form word.now value.now)) (Writes (form word.now value.now)) }
 {
-    if word == b"library".as_slice() {
-        Some(Kind::Library)
-    } else if word == b"papers".as_slice() {
-        Some(Kind::Papers)
-    } else if word == b"arc".as_slice() {
-        Some(Kind::Arc)
-    } else if word == b"end".as_slice() {
-        Some(Kind::End)
-    } else if word == b"ask".as_slice() {
-        Some(Kind::Ask)
-    } else if word == b"trace".as_slice() {
-        Some(Kind::Trace)
-    } else if word == b"under".as_slice() {
-        Some(Kind::Under)
-    } else {
-        None
+    match word {
+        "library" => parse_number(value).map(Line::Library),
+        "papers" => parse_number(value).map(Line::Papers),
+        "arc" => parse_pair(value).map(|(u, v)| Line::Arc(u, v)),
+        "end" => parse_number(value).map(Line::End),
+        "ask" => parse_pair(value).map(|(s, t)| Line::Ask(s, t)),
+        "trace" => parse_pair(value).map(|(s, t)| Line::Trace(s, t)),
+        "under" => parse_number(value).map(Line::Under),
+        _ => None,
     }
-}
-
-// The line of this kind that has `value` after the sign `=`.
-fn parse_value(kind: Kind, value: &[u8]) -> Option<Line>
-    ensures { MatchOption result (WritesNone (form kind value.now)) (Writes (form kind value.now)) }
-{
-    let line = match kind {
-        Kind::Library => Line::Library(parse_number(value)?),
-        Kind::Papers => Line::Papers(parse_number(value)?),
-        Kind::Arc => {
-            let (u, v) = parse_pair(value)?;
-            Line::Arc(u, v)
-        }
-        Kind::End => Line::End(parse_number(value)?),
-        Kind::Ask => {
-            let (s, t) = parse_pair(value)?;
-            Line::Ask(s, t)
-        }
-        Kind::Trace => {
-            let (s, t) = parse_pair(value)?;
-            Line::Trace(s, t)
-        }
-        Kind::Under => Line::Under(parse_number(value)?),
-    };
-    Some(line)
 }
 
 // The two numbers of `m,n`.
-fn parse_pair(bytes: &[u8]) -> Option<(u16, u16)>
-    ensures { MatchOption result ((m n : ℕ) → WritesPair bytes.now m n → ⊥) (λ p. WritesPair bytes.now p.0 p.1) }
+fn parse_pair(text: &str) -> Option<(u16, u16)>
+    ensures { MatchOption result ((m n : ℕ) → WritesPair text.now m n → ⊥) (λ p. WritesPair text.now p.0 p.1) }
 {
-    let (front, back) = split_at_first(bytes, b',')?;
-    let m = parse_number(front)?;
-    let n = parse_number(back)?;
-    Some((m, n))
+    let (m, n) = text.split_once(',')?;
+    Some((parse_number(m)?, parse_number(n)?))
 }
 
-// The number that `bytes` are in decimal, without leading zeros.
-fn parse_number(bytes: &[u8]) -> Option<u16>
-    ensures { MatchOption result ((n : ℕ) → WritesNumber bytes.now n → ⊥) (WritesNumber bytes.now) }
+// The number that `text` is in decimal, without a sign or leading zeros, both of which `parse` would take.
+fn parse_number(text: &str) -> Option<u16>
+    ensures { MatchOption result ((n : ℕ) → WritesNumber text.now n → ⊥) (WritesNumber text.now) }
 {
-    if bytes.is_empty() || bytes.len() > 5 {
+    if text.starts_with('+') || has_leading_zero(text) {
         return None;
     }
-    if has_leading_zero(bytes) {
-        return None;
-    }
-    let mut n: u32 = 0;
-    for digit in bytes {
-        if !digit.is_ascii_digit() {
-            return None;
-        }
-        n = n * 10 + u32::from(*digit - b'0');
-    }
-    u16::try_from(n).ok()
+    text.parse().ok()
 }
 
-// Whether `bytes` begin with a zero and go on after it.
-fn has_leading_zero(bytes: &[u8]) -> bool
-    ensures { T result ↔ ((1 < length bytes.now) × (slice_index bytes.now 0 ≡ 48)) }
+// Whether `text` begins with a zero and goes on after it.
+fn has_leading_zero(text: &str) -> bool
+    ensures { IsTrue result ↔ ((1 < length text.now) × (slice_index text.now 0 ≡ 48)) }
 {
-    bytes.len() > 1 && bytes[0] == b'0'
+    text.len() > 1 && text.starts_with('0')
 }
 
-// What stands before and after the first `separator` in `bytes`.
-fn split_at_first(bytes: &[u8], separator: u8) -> Option<(&[u8], &[u8])>
-    ensures { MatchOption result (Lacks bytes.now separator) (λ p. SplitsAt bytes.now separator p.0.now p.1.now) }
+// What stands before and after the first line feed in `bytes`. (`split_once` is for text, which an input may not be.)
+fn split_line(bytes: &[u8]) -> Option<(&[u8], &[u8])>
+    ensures { MatchOption result (Lacks bytes.now line_feed) (λ p. SplitsAt bytes.now line_feed p.0.now p.1.now) }
 {
-    let i = first_place(bytes, separator)?;
+    let i = bytes.iter().position(|b| *b == b'\n')?;
     Some((&bytes[..i], &bytes[i + 1..]))
-}
-
-// The first place of `byte` in `bytes`.
-fn first_place(bytes: &[u8], byte: u8) -> Option<usize>
-    ensures { MatchOption result (Lacks bytes.now byte) (FirstPlace bytes.now byte) }
-{
-    for (i, b) in bytes.iter().enumerate() {
-        if *b == byte {
-            return Some(i);
-        }
-    }
-    None
 }
 
 // The next line has no permitted form, or no line feed ends it.
 #[derive(Clone, Copy, Debug, PartialEq, Eq)]
 pub struct NoForm;
 
-// Reads an input line by line.
+impl fmt::Display for NoForm {
+    ghost output = { λ _. Some (codes "the next line has no permitted form or no line feed") };
+
+    fn fmt<W: fmt::Write>(&self, f: &mut fmt::Formatter<W>) -> fmt::Result {
+        write!(f, "the next line has no permitted form or no line feed")
+    }
+}
+
+impl Error for NoForm {}
+
+// Reads an input line by line. (No `Iterator`: an error leaves its line unread, and would come again without end.)
 #[derive(Drop)]
 pub struct Reader<'a> {
     rest: &'a [u8],
@@ -171,7 +116,7 @@ impl<'a> Reader<'a> {
         if self.rest.is_empty() {
             return Ok(None);
         }
-        let (bytes, rest) = split_at_first(self.rest, b'\n').ok_or(NoForm)?;
+        let (bytes, rest) = split_line(self.rest).ok_or(NoForm)?;
         let line = parse_line(bytes).ok_or(NoForm)?;
         self.rest = rest;
         Ok(Some(line))
