@@ -1,12 +1,13 @@
-use Rattle.std.specs.Ordering.{is_lt}
-use Rattle.std.specs.Cmp.{IsTotalOrder}
-use Rattle.std.proofs.Common.{◌≡◌, ◌-◌, length}
+use Rattle.std.proofs.Common.{◌-◌, get_or}
 use Rattle.heap.specs.Heaps.{HeapedPast, Rearranged}
 use Rattle.heap.proofs.Sifts.{Sinking}
 use Rattle.heap.proofs.sift_down.Given as goal
 
 abbrev pub invariant-loop-parent : goal.invariant-loop-parent
-invariant-loop-parent g l = (length l.heap ≡ length l.initial.heap) × Rearranged l.initial.heap l.heap l.end × ((o : IsTotalOrder g.K.Ord.cmp) → HeapedPast (λ x y. is_lt (g.K.Ord.cmp x y)) l.initial.heap l.end → Sinking (λ x y. is_lt (g.K.Ord.cmp x y)) l.heap l.parent l.end)
+invariant-loop-parent g l = record {
+  rearranged : Rearranged l.initial.heap l.heap l.end;
+  sinking : HeapedPast g.K.Ord.cmp l.initial.heap l.end → (d : _) → Sinking g.K.Ord.cmp (λ m. get_or l.heap m d) l.parent l.end;
+}
 
 abbrev pub decreases-loop-parent : goal.decreases-loop-parent
 decreases-loop-parent g l = l.end - l.parent
