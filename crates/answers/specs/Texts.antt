@@ -1,11 +1,10 @@
 -- Texts as lists of bytes. Assumes nothing.
-use Rattle.std.specs.Prelude.{◌≡◌, ℕ, List, [], ◌∷◌, ◌++◌, take, decimal}
+use Rattle.std.specs.Prelude.{◌≡◌, ℕ, List, ◌++◌, take, codes, decimal}
+use Rattle.std.specs.List.{join_by}
 
 -- numbers in decimal, with commas between them
 abbrev pub commas : List ℕ → List ℕ
-commas [] = []
-commas (x ∷ []) = decimal x
-commas (x ∷ y ∷ ys) = decimal x ++ 44 ∷ commas (y ∷ ys)
+commas = join_by decimal (codes ",")
 
 -- the part of a text that a line buffer has room for: all of it up to 2560 bytes
 unfoldable pub kept : List ℕ → List ℕ

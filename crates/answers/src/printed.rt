@@ -1,28 +1,33 @@
-// The printed lines, each with its line feed.
-ghost use Rattle.std.specs.Prelude.{◌≡◌, ◌<◌, ◌≤◌, length};
-ghost use Rattle.std.specs.List.{AllByRecursion};
-ghost use Rattle.answers.specs.Texts.{kept};
-ghost use Rattle.answers.specs.Held.{held};
+// The printed lines, each with its line feed. (No `write!`: it promises its text only where it succeeds, and these calls cannot fail.)
+ghost use Rattle.std.specs.Prelude.{◌≡◌, ◌<◌, ◌≤◌, ◌++◌, length, All};
+ghost use Rattle.answers.specs.Texts.{kept, Gains};
 ghost use Rattle.answers.specs.Printed.{header_line, verdict_word, ask_line, trace_line, under_line, fault_line};
 
 use crate::buffer::LineBuffer;
+use itoa::Integer;
 use labels::Verdict;
+
+// A field of a line: its name, and its number in decimal.
+fn field<I: Integer>(line: &mut LineBuffer, name: &[u8], n: I)
+    ensures { Gains line.old (name.now ++ I.text n) line.new }
+{
+    line.text(name);
+    line.number(n);
+}
 
 // What was read: the library's number, its vertices and its arcs.
 pub fn header(library: u16, vertices: u16, arcs: u16) -> LineBuffer
-    ensures { held result ≡ header_line library vertices arcs }
+    ensures { result ≡ header_line library vertices arcs }
 {
     let mut line = LineBuffer::new();
-    line.text(b"library=");
-    line.number(library as usize);
-    line.text(b" papers=");
-    line.number(vertices as usize);
-    line.text(b" arcs=");
-    line.number(arcs as usize);
+    field(&mut line, b"library=", library);
+    field(&mut line, b" papers=", vertices);
+    field(&mut line, b" arcs=", arcs);
     line.text(b"\n");
     line
 }
 
+// The word for a verdict, in bytes as all of a line is.
 fn word(verdict: Verdict) -> &'static [u8]
     ensures { result.now ≡ verdict_word verdict }
 {
@@ -34,35 +39,28 @@ fn word(verdict: Verdict) -> &'static [u8]
 
 // Whether s reaches t, on which ground, and how many vertices were opened to tell.
 pub fn ask(s: u16, t: u16, verdict: Verdict, ground: u16, opened: u16) -> LineBuffer
-    ensures { held result ≡ ask_line s t verdict ground opened }
+    ensures { result ≡ ask_line s t verdict ground opened }
 {
     let mut line = LineBuffer::new();
     line.text(b"ask=");
-    line.number(s as usize);
-    line.text(b",");
-    line.number(t as usize);
+    line.list(&[s, t]);
     line.text(b" answer=");
     line.text(word(verdict));
-    line.text(b" ground=");
-    line.number(ground as usize);
-    line.text(b" opened=");
-    line.number(opened as usize);
+    field(&mut line, b" ground=", ground);
+    field(&mut line, b" opened=", opened);
     line.text(b"\n");
     line
 }
 
 // A path from s to t, or none where it is empty. The line is whole for every path of at most 512 numbers below 1000, so for every path of vertices.
 pub fn trace(s: u16, t: u16, path: &[u16]) -> LineBuffer
-    ensures front { held result ≡ kept (trace_line s t path.now) }
-    ensures whole { length path.now ≤ 512 → AllByRecursion (λ x. x < 1000) path.now → held result ≡ trace_line s t path.now }
+    ensures front { result ≡ kept (trace_line s t path.now) }
+    ensures whole { length path.now ≤ 512 → All (λ x. x < 1000) path.now → result ≡ trace_line s t path.now }
 {
     let mut line = LineBuffer::new();
     line.text(b"trace=");
-    line.number(s as usize);
-    line.text(b",");
-    line.number(t as usize);
-    line.text(b" length=");
-    line.number(path.len());
+    line.list(&[s, t]);
+    field(&mut line, b" length=", path.len());
     line.text(b" path=");
     if path.is_empty() {
         line.text(b"none");
@@ -75,14 +73,12 @@ pub fn trace(s: u16, t: u16, path: &[u16]) -> LineBuffer
 
 // The vertices that s reaches. The line is whole for every list of at most 512 numbers below 1000, so for every list of vertices.
 pub fn under(s: u16, list: &[u16]) -> LineBuffer
-    ensures front { held result ≡ kept (under_line s list.now) }
-    ensures whole { length list.now ≤ 512 → AllByRecursion (λ x. x < 1000) list.now → held result ≡ under_line s list.now }
+    ensures front { result ≡ kept (under_line s list.now) }
+    ensures whole { length list.now ≤ 512 → All (λ x. x < 1000) list.now → result ≡ under_line s list.now }
 {
     let mut line = LineBuffer::new();
-    line.text(b"under=");
-    line.number(s as usize);
-    line.text(b" count=");
-    line.number(list.len());
+    field(&mut line, b"under=", s);
+    field(&mut line, b" count=", list.len());
     line.text(b" list=");
     line.list(list);
     line.text(b"\n");
@@ -91,13 +87,11 @@ pub fn under(s: u16, list: &[u16]) -> LineBuffer
 
 // The fault of that number, at the line of that number.
 pub fn fault(number: u16, at: u32) -> LineBuffer
-    ensures { held result ≡ fault_line number at }
+    ensures { result ≡ fault_line number at }
 {
     let mut line = LineBuffer::new();
-    line.text(b"fault=");
-    line.number(number as usize);
-    line.text(b" line=");
-    line.number(at as usize);
+    field(&mut line, b"fault=", number);
+    field(&mut line, b" line=", at);
     line.text(b"\n");
     line
 }

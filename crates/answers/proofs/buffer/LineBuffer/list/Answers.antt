@@ -1,20 +1,15 @@
-use Rattle.std.proofs.Common.{ap, arith}
-use Rattle.std.proofs.lemmas.List.{take_all}
-use Rattle.answers.specs.Texts.{commas}
-use Rattle.answers.specs.Held.{held}
-use Rattle.answers.proofs.Room.{gains_none, gains_then, gains_as, gains_to, commas_first, commas_more}
+use Rattle.std.proofs.Common.{arith}
+use Rattle.answers.proofs.Room.{gains_empty, gains_then, gains_no_more, behind_more, commas_whole}
 use Rattle.answers.proofs.buffer.LineBuffer.list.Goals as goal
-use Rattle.answers.proofs.buffer.LineBuffer.list.Goals.{then-i-gt0, else-i-gt0}
 
-pub loop-i-init : goal.loop-i-init
-loop-i-init c = gains_none c.args.self.now
+pub returns-in_default : goal.returns-in_default
+returns-in_default c = rw (← c.self.view_is) (gains_empty c.args.xs.now c.self.invariant (omega (arith, c.in_default.ensures.cases)))
 
-pub loop-i-preserved : goal.loop-i-preserved
-loop-i-preserved c =
-    elim c.if-i-gt0.branch [
-      | then-i-gt0 w ↦ gains_as _ (commas_more c.args.xs.now c.loop-i.i w.if-i-gt0.true c.loop-i-test.true) (gains_then c.loop-i.invariant (gains_then (gains_to (ap held w.self-is) w.byte.ensures) c.number.ensures))
-      | else-i-gt0 w ↦ gains_as _ (commas_first c.args.xs.now c.loop-i.i (omega (arith, w.if-i-gt0.false)) (omega arith)) (gains_then (gains_to (ap held w.self-is) c.loop-i.invariant) c.number.ensures)
-    ]
+pub loop-x-init : goal.loop-x-init
+loop-x-init c = gains_no_more c.number.ensures
+
+pub loop-x-preserved : goal.loop-x-preserved
+loop-x-preserved c = behind_more _ c.loop-x.x-index c.loop-x-test.true c.loop-x.invariant (gains_then c.byte.ensures c.number-in-loop-x.ensures)
 
 pub returns : goal.returns
-returns c = gains_as _ (ap commas (take_all c.loop-i.i c.args.xs.now c.loop-i-test.false)) c.loop-i.invariant
+returns c = commas_whole _ c.in-Some.rest.now c.in-Some.first.now c.loop-x.x-index c.in-Some.ensures.cases.0 c.loop-x-test.false c.number.ensures c.loop-x.invariant

@@ -1,7 +1,7 @@
 use Rattle.std.proofs.Common.{take}
-use Rattle.answers.specs.Texts.{Gains, commas}
-use Rattle.answers.specs.Held.{held}
+use Rattle.answers.specs.Texts.{Gains}
+use Rattle.answers.proofs.Room.{behind_commas}
 use Rattle.answers.proofs.buffer.LineBuffer.list.Given as goal
 
-abbrev pub invariant-loop-i : goal.invariant-loop-i
-invariant-loop-i l = Gains (held l.initial.self) (commas (take l.i l.xs)) (held l.self)
+abbrev pub invariant-loop-x : goal.invariant-loop-x
+invariant-loop-x l = Gains l.initial.self (behind_commas (take l.x-index l.rest)) l.self
