@@ -1,44 +1,39 @@
 -- The promises leave one answer and one content of the slice. Assumes nothing.
-use Rattle.std.proofs.Common.{◌≡◌, ℕ, zero, suc, ◌≤◌, Bool, true, false, cond, ltb, leb, List, ◌++◌, length, take, drop, Some, None, Ok, Err, Option, Result, sym, refl, ap, ◌∙◌, ⊎_elim, arith, take-append-drop}
-use Rattle.std.proofs.lemmas.Bool.{cases_Bool, cond-true, ltb-false}
+use Rattle.std.proofs.Common.{◌≡◌, ℕ, zero, suc, ◌≤◌, List, length, take, drop, Some, None, Ok, Err, Option, Result, sym, refl, ap, ◌∙◌, arith, take-append-drop}
+use Rattle.std.proofs.lemmas.Bool.Decides.{nat_tests}
 use Rattle.std.proofs.lemmas.List.{length-take-le}
 use Rattle.search.specs.declared.Refusal.{Refusal}
-use Rattle.search.specs.declared.Refusal.TheVariants.{NoVertex, ShortSlice}
 use Rattle.graph.specs.Model.{Model}
 use Rattle.graph.specs.Paths.{Reaches}
+use Rattle.search.specs.Refusals.{refusal, refusal_of_two}
 use Rattle.search.specs.Under.{Under, UnderAnswer}
 use Rattle.search.specs.Trace.{TraceWritten, TraceAnswer}
 use Rattle.search.proofs.Lists.{same_ascending, all_at}
 use Rattle.search.proofs.Traces.{trace_one}
 
 -- a call that is not refused has room
-enough : (b : Bool) (room n : ℕ) → cond b (Some NoVertex) (cond (ltb room n) (Some ShortSlice) None) ≡ None → n ≤ room
-enough true room n e = let z : ◌≡◌ {A = ℕ} 0 1 = cc in absurd (omega arith)
-enough false room n e =
-    ⊎_elim
-    (λ (i : ltb room n ≡ true). let f = cond-true (ltb room n) (Some ShortSlice) None i in let z : ◌≡◌ {A = ℕ} 0 1 = cc in absurd (omega arith))
-    (λ (i : ltb room n ≡ false). ltb-false room n i)
-    (cases_Bool (ltb room n))
+enough : (n s room : ℕ) → refusal n s room ≡ None → n ≤ room
+enough n s room e = grind (arith, nat_tests)
 
-enough_of_two : (a b : Bool) (room n : ℕ) → cond a (Some NoVertex) (cond b (Some NoVertex) (cond (ltb room n) (Some ShortSlice) None)) ≡ None → n ≤ room
-enough_of_two true b room n e = let z : ◌≡◌ {A = ℕ} 0 1 = cc in absurd (omega arith)
-enough_of_two false b room n e = enough b room n e
+enough_of_two : (n s t room : ℕ) → refusal_of_two n s t room ≡ None → n ≤ room
+enough_of_two n s t room e = grind (arith, nat_tests)
 
 -- two lists with one written part and one rest
-same_written : (before after after' : List ℕ) (c d : ℕ) → c ≤ length after → d ≤ length after' → take c after ≡ take d after' →
-    drop c after ≡ drop c before → drop d after' ≡ drop d before → (c ≡ d) × (after ≡ after')
-same_written before after after' c d l k e f h =
-    let q : c ≡ d = sym (length-take-le c after l) ∙ ap length e ∙ length-take-le d after' k in
-    (q, sym (take-append-drop c after) ∙ ap (λ x. x ++ drop c after) e ∙ ap (λ x. take d after' ++ x) (f ∙ ap (λ x. drop x before) q ∙ sym h) ∙ take-append-drop d after')
+pub same_written : (before after after' : List ℕ) (c d : ℕ) → c ≡ d → take c after ≡ take d after' →
+    drop c after ≡ drop c before → drop d after' ≡ drop d before → after ≡ after'
+same_written before after after' c d q e f h = cc (take-append-drop c after, take-append-drop d after')
+
+same_count : (after after' : List ℕ) (c d : ℕ) → c ≤ length after → d ≤ length after' → take c after ≡ take d after' → c ≡ d
+same_count after after' c d l k e = omega (arith, length-take-le c after l, length-take-le d after' k, ap length e)
 
 pub one_list : (g : Model) (s : ℕ) (xs ys : List ℕ) → Under g s xs → Under g s ys → xs ≡ ys
 one_list g s xs ys a b =
     same_ascending xs ys a.ascending b.ascending
-    (λ v h. b.all v (all_at (λ w. Reaches g s w) xs v a.only h))
-    (λ v h. a.all v (all_at (λ w. Reaches g s w) ys v b.only h))
+    (λ v h. b.all v (all_at (Reaches g s) xs v a.only h))
+    (λ v h. a.all v (all_at (Reaches g s) ys v b.only h))
 
 pub clash : {A : Type 0} (o : Option Refusal) (e : Refusal) → o ≡ None → o ≡ Some e → A
-clash o e p q = let z : ◌≡◌ {A = ℕ} 0 1 = cc in absurd (omega arith)
+clash o e p q = absurd (cc)
 
 pub same_refusal : (o : Option Refusal) (e d : Refusal) → o ≡ Some e → o ≡ Some d → e ≡ d
 same_refusal o e d p q = cc
@@ -46,9 +41,10 @@ same_refusal o e d p q = cc
 pub one_under_answer_lem : (g : Model) (s : ℕ) (before after after' : List ℕ) (r r' : Result ℕ Refusal) → length after ≡ length before → length after' ≡ length before →
     UnderAnswer g s before after r → UnderAnswer g s before after' r' → (r ≡ r') × (after ≡ after')
 one_under_answer_lem g s before after after' (Ok c) (Ok d) l k h i =
-    let room = enough (leb g.order s) (length before) g.order h.0 in
-    let z = same_written before after after' c d (omega (arith, h.1.few)) (omega (arith, i.1.few)) (one_list g s (take c after) (take d after') h.1.lists i.1.lists) h.1.rest i.1.rest in
-    (ap Ok z.0, z.1)
+    let room = enough g.order s (length before) h.0 in
+    let e = one_list g s (take c after) (take d after') h.1.lists i.1.lists in
+    let q = same_count after after' c d (omega (arith, h.1.few)) (omega (arith, i.1.few)) e in
+    (ap Ok q, same_written before after after' c d q e h.1.rest i.1.rest)
 one_under_answer_lem g s before after after' (Ok c) (Err d) l k h i = clash _ d h.0 i.0
 one_under_answer_lem g s before after after' (Err c) (Ok d) l k h i = clash _ c i.0 h.0
 one_under_answer_lem g s before after after' (Err c) (Err d) l k h i = (ap Err (same_refusal _ c d h.0 i.0), h.1 ∙ sym i.1)
@@ -63,9 +59,10 @@ one_written g s t after after' before (suc c) (suc d) h i = trace_one g t (h.fou
 pub one_trace_answer_lem : (g : Model) (s t : ℕ) (before after after' : List ℕ) (r r' : Result ℕ Refusal) → length after ≡ length before → length after' ≡ length before →
     TraceAnswer g s t before after r → TraceAnswer g s t before after' r' → (r ≡ r') × (after ≡ after')
 one_trace_answer_lem g s t before after after' (Ok c) (Ok d) l k h i =
-    let room = enough_of_two (leb g.order s) (leb g.order t) (length before) g.order h.0 in
-    let z = same_written before after after' c d (omega (arith, h.1.few)) (omega (arith, i.1.few)) (one_written g s t after after' before c d h.1 i.1) h.1.rest i.1.rest in
-    (ap Ok z.0, z.1)
+    let room = enough_of_two g.order s t (length before) h.0 in
+    let e = one_written g s t after after' before c d h.1 i.1 in
+    let q = same_count after after' c d (omega (arith, h.1.few)) (omega (arith, i.1.few)) e in
+    (ap Ok q, same_written before after after' c d q e h.1.rest i.1.rest)
 one_trace_answer_lem g s t before after after' (Ok c) (Err d) l k h i = clash _ d h.0 i.0
 one_trace_answer_lem g s t before after after' (Err c) (Ok d) l k h i = clash _ c i.0 h.0
 one_trace_answer_lem g s t before after after' (Err c) (Err d) l k h i = (ap Err (same_refusal _ c d h.0 i.0), h.1 ∙ sym i.1)

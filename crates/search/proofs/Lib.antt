@@ -1,4 +1,4 @@
-mod Marks
+pub mod Marks
 pub mod Lists
 pub mod Successors
 pub mod Listing

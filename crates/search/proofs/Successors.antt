@@ -1,6 +1,6 @@
 -- The numbers that pass a test, as a list, and the list of a vertex's successors. Assumes nothing.
-use Rattle.std.proofs.Common.{◌≡◌, ℕ, zero, suc, ◌+◌, ◌-◌, ◌<◌, ◌≤◌, Bool, true, false, eqb, [], ◌∷◌, Some, None, sym, refl, ap, ◌∙◌, ⊎_elim, arith}
-use Rattle.std.proofs.lemmas.Bool.{cond-true, cond-false, cond_both, cases_eq, eq-eqb, or_left, or_right}
+use Rattle.std.proofs.Common.{◌≡◌, ℕ, zero, suc, ◌+◌, ◌-◌, ◌<◌, ◌≤◌, Bool, true, false, eqb, [], ◌∷◌, Some, None, sym, refl, ◌∙◌, ⊎_elim, arith}
+use Rattle.std.proofs.lemmas.Bool.{cond_both, cases_eq, eq-eqb, or_left, or_right}
 use Rattle.std.specs.List.{AllByRecursion}
 use Rattle.graph.specs.Model.{Model, NextSuccessor}
 use Rattle.search.specs.Under.{has}
@@ -17,35 +17,24 @@ passing_pass p (suc k) v =
 pub passing_has : (p : ℕ → Bool) (k v w : ℕ) → v ≤ w → w < v + k → p w ≡ true → has w (passing p v k) ≡ true
 passing_has p zero v w l b e = absurd (omega arith)
 passing_has p (suc k) v w l b e =
-    ⊎_elim
-    (λ (q : v ≡ w).
-    let a : p v ≡ true = cc in
-    ap (has w) (cond-true (p v) (v ∷ passing p (suc v) k) (passing p (suc v) k) a) ∙ or_left (eqb w v) _ (eq-eqb w v (sym q)))
-    (λ (ne : v ≡ w → ⊥).
-    let r = passing_has p k (suc v) w (omega arith) (omega arith) e in
-    cond_both (p v) (v ∷ passing p (suc v) k) (passing p (suc v) k) (λ xs. has w xs ≡ true) (λ _. or_right (eqb w v) _ r) (λ _. r))
-    (cases_eq v w)
+    cond_both (p v) _ _ (λ xs. has w xs ≡ true)
+    (λ i. ⊎_elim
+    (λ (q : v ≡ w). or_left (eqb w v) _ (eq-eqb w v (sym q)))
+    (λ (ne : v ≡ w → ⊥). or_right (eqb w v) _ (passing_has p k (suc v) w (omega arith) (omega arith) e))
+    (cases_eq v w))
+    (λ i. passing_has p k (suc v) w (grind arith) (omega arith) e)
 
 passing_none : (p : ℕ → Bool) (k v : ℕ) → ((i : ℕ) → v ≤ i → p i ≡ false) → passing p v k ≡ []
 passing_none p zero v h = refl
-passing_none p (suc k) v h =
-    cond-false (p v) _ _ (h v (omega arith)) ∙ passing_none p k (suc v) (λ i l. h i (omega arith))
+passing_none p (suc k) v h = grind (arith, h v (omega arith), passing_none p k (suc v) (λ i l. h i (omega arith)))
 
 passing_next : (p : ℕ → Bool) (k v w : ℕ) → v ≤ w → w < v + k → p w ≡ true → ((i : ℕ) → v ≤ i → i < w → p i ≡ false) →
     passing p v k ≡ w ∷ passing p (suc w) (v + k - suc w)
 passing_next p zero v w l m a h = absurd (omega arith)
 passing_next p (suc k) v w l m a h =
     ⊎_elim
-    (λ (e : v ≡ w).
-    let b : p v ≡ true = cc in
-    let n : k ≡ v + suc k - suc w = omega arith in
-    let r : (v ∷ passing p (suc v) k) ≡ (w ∷ passing p (suc w) (v + suc k - suc w)) = cc in
-    cond-true (p v) _ _ b ∙ r)
-    (λ (ne : v ≡ w → ⊥).
-    let n : suc v + k ≡ v + suc k = omega arith in
-    cond-false (p v) _ _ (h v (omega arith) (omega arith)) ∙
-    passing_next p k (suc v) w (omega arith) (omega arith) a (λ i a b. h i (omega arith) b) ∙
-    ap (λ x. w ∷ passing p (suc w) (x - suc w)) n)
+    (λ (e : v ≡ w). let n : k ≡ v + suc k - suc w = omega arith in grind arith)
+    (λ (ne : v ≡ w → ⊥). grind (arith, h v (omega arith) (omega arith), passing_next p k (suc v) w (omega arith) (omega arith) a (λ i a b. h i (omega arith) b)))
     (cases_eq v w)
 
 pub successors_end : (g : Model) (u v : ℕ) → NextSuccessor g u v None → successors_from g u v ≡ []

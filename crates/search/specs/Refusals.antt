@@ -1,5 +1,5 @@
--- The numbers of the refusals, and when a question is refused. Assumes nothing.
-use Rattle.std.specs.Prelude.{ℕ, cond, Some, None, Option, nat_le, nat_lt}
+-- The numbers and the texts of the refusals, and when a question is refused. Assumes nothing.
+use Rattle.std.specs.Prelude.{ℕ, cond, List, Some, None, Option, codes, nat_le, nat_lt}
 use Rattle.search.specs.declared.Refusal.{Refusal}
 use Rattle.search.specs.declared.Refusal.TheVariants.{NoVertex, ShortSlice}
 
@@ -7,6 +7,11 @@ use Rattle.search.specs.declared.Refusal.TheVariants.{NoVertex, ShortSlice}
 abbrev pub refusal_number : Refusal → ℕ
 refusal_number NoVertex = 2
 refusal_number ShortSlice = 8
+
+-- what a refusal says
+abbrev pub refusal_text : Refusal → List ℕ
+refusal_text NoVertex = codes "there is no such vertex"
+refusal_text ShortSlice = codes "the slice is shorter than the number of vertices"
 
 -- the refusal of a question about the vertex s, over n vertices, with a slice of that length; None where it is answered
 abbrev pub refusal : ℕ → ℕ → ℕ → Option Refusal
