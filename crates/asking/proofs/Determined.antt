@@ -1,21 +1,13 @@
 -- The promise leaves one answer and one content of the slice. Assumes nothing.
-use Rattle.std.proofs.Common.{◌≡◌, ℕ, List, ◌++◌, length, take, drop, Some, None, Ok, Err, Option, Result, sym, refl, ap, ◌∙◌, arith, take-append-drop}
-use Rattle.std.proofs.lemmas.Bool.{both_ways}
+use Rattle.std.proofs.Common.{◌≡◌, ℕ, List, length, take, Some, None, Ok, Err, Option, Result, sym, refl, ap, ◌∙◌}
 use Rattle.graph.specs.Model.{Model}
 use Rattle.labels.specs.declared.decision.Verdict.{Verdict}
-use Rattle.labels.specs.declared.decision.Verdict.TheVariants.{Yes, No}
 use Rattle.labels.specs.declared.decision.Decision.{Decision}
 use Rattle.asking.specs.declared.answer.Answer.{Answer}
 use Rattle.search.specs.declared.Refusal.{Refusal}
-use Rattle.search.proofs.Determined.{clash, same_refusal}
+use Rattle.search.proofs.Determined.{clash, same_refusal, same_written}
 use Rattle.asking.specs.Search.{Place, Runs, ends, opens, finds, drops, knows, puts, leaves}
 use Rattle.asking.specs.Questions.{Found, Asked}
-
-yes_or_no : {A : Type 0} (o : Option Decision) (d e : Decision) → o ≡ Some d → d.verdict ≡ Yes → o ≡ Some e → e.verdict ≡ No → A
-yes_or_no o d e p q i j = let k : d ≡ e = cc in let z : ◌≡◌ {A = ℕ} 0 1 = cc in absurd (omega arith)
-
-told_or_not : {A : Type 0} (o : Option Decision) (d : Decision) → o ≡ Some d → o ≡ None → A
-told_or_not o d p q = let z : ◌≡◌ {A = ℕ} 0 1 = cc in absurd (omega arith)
 
 -- from one place the search ends in one way
 one_end : (g : Model) (tells : ℕ → Option Decision) {place : Place} {waiting put opened all all' : List ℕ} {v v' : Verdict} →
@@ -23,26 +15,25 @@ one_end : (g : Model) (tells : ℕ → Option Decision) {place : Place} {waiting
 one_end g tells ends ends = (refl, refl)
 one_end g tells (opens r) (opens q) = one_end g tells r q
 one_end g tells (finds e y) (finds e' y') = (refl, refl)
-one_end g tells (finds e y) (drops e' n' q) = yes_or_no _ _ _ e y e' n'
-one_end g tells (finds e y) (knows e' h' q) = told_or_not _ _ e e'
-one_end g tells (finds e y) (puts e' h' q) = told_or_not _ _ e e'
-one_end g tells (drops e n r) (finds e' y') = yes_or_no _ _ _ e' y' e n
+one_end g tells (finds e y) (drops e' n' q) = absurd (cc)
+one_end g tells (finds e y) (knows e' h' q) = absurd (cc)
+one_end g tells (finds e y) (puts e' h' q) = absurd (cc)
+one_end g tells (drops e n r) (finds e' y') = absurd (cc)
 one_end g tells (drops e n r) (drops e' n' q) = one_end g tells r q
-one_end g tells (drops e n r) (knows e' h' q) = told_or_not _ _ e e'
-one_end g tells (drops e n r) (puts e' h' q) = told_or_not _ _ e e'
-one_end g tells (knows e h r) (finds e' y') = told_or_not _ _ e' e
-one_end g tells (knows e h r) (drops e' n' q) = told_or_not _ _ e' e
+one_end g tells (drops e n r) (knows e' h' q) = absurd (cc)
+one_end g tells (drops e n r) (puts e' h' q) = absurd (cc)
+one_end g tells (knows e h r) (finds e' y') = absurd (cc)
+one_end g tells (knows e h r) (drops e' n' q) = absurd (cc)
 one_end g tells (knows e h r) (knows e' h' q) = one_end g tells r q
-one_end g tells (knows e h r) (puts e' h' q) = absurd (both_ways _ h' h)
-one_end g tells (puts e h r) (finds e' y') = told_or_not _ _ e' e
-one_end g tells (puts e h r) (drops e' n' q) = told_or_not _ _ e' e
-one_end g tells (puts e h r) (knows e' h' q) = absurd (both_ways _ h h')
+one_end g tells (knows e h r) (puts e' h' q) = absurd (cc)
+one_end g tells (puts e h r) (finds e' y') = absurd (cc)
+one_end g tells (puts e h r) (drops e' n' q) = absurd (cc)
+one_end g tells (puts e h r) (knows e' h' q) = absurd (cc)
 one_end g tells (puts e h r) (puts e' h' q) = one_end g tells r q
 one_end g tells (leaves r) (leaves q) = one_end g tells r q
 
 same_answer : (a b : Answer) → a.verdict ≡ b.verdict → a.ground ≡ b.ground → a.opened ≡ b.opened → a ≡ b
-same_answer a b v k n =
-    let e : ◌≡◌ {A = Answer} (record { verdict = a.verdict; ground = a.ground; opened = a.opened }) (record { verdict = b.verdict; ground = b.ground; opened = b.opened }) = cc in e
+same_answer a b v k n = λ i. record { verdict = v i; ground = k i; opened = n i }
 
 -- one answer, and one list of opened vertices
 one_found : (g : Model) (tells : ℕ → Option Decision) (s : ℕ) (o : Option Decision) (a b : Answer) (after after' : List ℕ) →
@@ -55,12 +46,6 @@ one_found g tells s (Some d) a b after after' f h = (
 one_found g tells s None a b after after' f h =
     let q = one_end g tells f.0 h.0 in
     (same_answer a b q.0 (f.1 ∙ sym h.1) (f.2 ∙ ap length q.1 ∙ sym h.2), q.1)
-
--- two lists with one written part and one rest
-same_written : (before after after' : List ℕ) (c d : ℕ) → c ≡ d → take c after ≡ take d after' →
-    drop c after ≡ drop c before → drop d after' ≡ drop d before → after ≡ after'
-same_written before after after' c d q e f h =
-    sym (take-append-drop c after) ∙ ap (λ x. x ++ drop c after) e ∙ ap (λ x. take d after' ++ x) (f ∙ ap (λ x. drop x before) q ∙ sym h) ∙ take-append-drop d after'
 
 pub one_answer_lem : (g : Model) (tells : ℕ → Option Decision) (s t : ℕ) (before after after' : List ℕ) (r r' : Result Answer Refusal) →
     Asked g tells s t before after r → Asked g tells s t before after' r' → (r ≡ r') × (after ≡ after')

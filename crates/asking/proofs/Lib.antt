@@ -1,7 +1,4 @@
-mod Lists
-mod Successors
 mod Kept
 pub mod Verdicts
 mod Steps
 mod Determined
-mod Ending

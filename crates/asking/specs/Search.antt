@@ -1,30 +1,22 @@
 -- The search from a vertex, for any labels, those that break the rules too, and any test. Assumes nothing.
-use Rattle.std.specs.Prelude.{◌≡◌, ℕ, zero, suc, ◌-◌, true, false, cond, List, [], ◌∷◌, ◌++◌, Some, None, Option, slice_index_or}
+use Rattle.std.specs.Prelude.{◌≡◌, ℕ, true, false, List, [], ◌∷◌, ◌++◌, Some, None, Option}
 use Rattle.graph.specs.Model.{Model}
-use Rattle.labels.specs.declared.label.Label.{Label}
 use Rattle.labels.specs.declared.decision.Verdict.{Verdict}
 use Rattle.labels.specs.declared.decision.Verdict.TheVariants.{Yes, No}
 use Rattle.labels.specs.declared.decision.Decision.{Decision}
-use Rattle.labels.specs.Labels.{Labels, zero_label}
+use Rattle.labels.specs.Labels.{Labels, label_at}
 use Rattle.labels.specs.Judges.{Judge, same, or_else}
+use Rattle.asking.specs.declared.oracle.Oracle.{Oracle}
 use Rattle.search.specs.Under.{has}
-
--- the label of each vertex, where past the end of the list there are labels of zeros
-abbrev pub label_at : List Label → Labels
-label_at labels v = slice_index_or labels v zero_label
+use Rattle.search.specs.Successors.{successors_from}
 
 -- what is said of each vertex v and the goal t: that v is t, or else what the test says
 abbrev pub told : Judge → Labels → ℕ → ℕ → Option Decision
 told judge labels t v = or_else same judge v t (labels v) (labels t)
 
--- the successors of u among the k numbers from v on, ascending
-abbrev pub successors_among : Model → ℕ → ℕ → ℕ → List ℕ
-successors_among g u v zero = []
-successors_among g u v (suc k) = cond (g.arc u v) (v ∷ successors_among g u (suc v) k) (successors_among g u (suc v) k)
-
--- the successors of u that are not below v, ascending
-abbrev pub successors_from : Model → ℕ → ℕ → List ℕ
-successors_from g u v = successors_among g u v (g.order - v)
+-- what an oracle says of each vertex v and the goal t: that v is t, or else what its test says with its labels
+abbrev pub oracle_says : {G T : Type 0} → (judges : T → Judge) → Oracle G T → ℕ → ℕ → Option Decision
+oracle_says judges oracle = told (judges oracle.test.now) (label_at oracle.labels.now)
 
 -- where the search stands: between two vertices, or at the successors that are left of the vertex opened last
 pub data Place : Type 0 where

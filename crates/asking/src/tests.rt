@@ -1,5 +1,5 @@
 // Questions that tests answer, and questions that open vertices.
-use crate::{Answer, ask};
+use crate::{Answer, Oracle};
 use graph::{BitMatrix, GrowableDigraph, add_vertices};
 use labels::{Label, Row, SIX_TESTS, Same, Verdict};
 use search::Refusal;
@@ -57,16 +57,15 @@ fn yes_at_a_successor(rt: HostRuntime) -> Result<(), Fail> {
         label(3, 3, 0, 2, 0),
         label(4, 4, 1, 1, 0),
     ];
+    let oracle = Oracle {
+        graph: &graph,
+        labels: &labels,
+        test: &SIX_TESTS,
+    };
     let mut opened = [9; 6];
-    assert_eq!(rt;
-        ask(&graph, &labels, &SIX_TESTS, 1, 3, &mut opened),
-        answer(Verdict::Yes, 0, 1)
-    );
+    assert_eq!(rt; oracle.ask(1, 3, &mut opened), answer(Verdict::Yes, 0, 1));
     assert!(rt; opened == [1, 9, 9, 9, 9, 9]);
-    assert_eq!(rt;
-        ask(&graph, &labels, &SIX_TESTS, 3, 1, &mut opened),
-        answer(Verdict::No, 2, 0)
-    );
+    assert_eq!(rt; oracle.ask(3, 1, &mut opened), answer(Verdict::No, 2, 0));
     assert!(rt; opened == [1, 9, 9, 9, 9, 9]);
     Ok(())
 }
@@ -85,11 +84,13 @@ fn no_after_one_vertex(rt: HostRuntime) -> Result<(), Fail> {
         label(2, 2, 0, 1, 0),
         label(3, 3, 0, 1, 0),
     ];
+    let oracle = Oracle {
+        graph: &graph,
+        labels: &labels,
+        test: &SIX_TESTS,
+    };
     let mut opened = [9; 4];
-    assert_eq!(rt;
-        ask(&graph, &labels, &SIX_TESTS, 1, 2, &mut opened),
-        answer(Verdict::No, 0, 1)
-    );
+    assert_eq!(rt; oracle.ask(1, 2, &mut opened), answer(Verdict::No, 0, 1));
     assert!(rt; opened == [1, 9, 9, 9]);
     Ok(())
 }
@@ -98,11 +99,13 @@ fn no_after_one_vertex(rt: HostRuntime) -> Result<(), Fail> {
 #[test]
 fn opens_the_vertex_put_last(rt: HostRuntime) -> Result<(), Fail> {
     let graph = five_vertices()?;
+    let oracle = Oracle {
+        graph: &graph,
+        labels: &[],
+        test: &Same,
+    };
     let mut opened = [9; 5];
-    assert_eq!(rt;
-        ask(&graph, &[], &Same, 1, 3, &mut opened),
-        answer(Verdict::Yes, 0, 3)
-    );
+    assert_eq!(rt; oracle.ask(1, 3, &mut opened), answer(Verdict::Yes, 0, 3));
     assert!(rt; opened == [1, 4, 2, 9, 9]);
     Ok(())
 }
@@ -110,11 +113,13 @@ fn opens_the_vertex_put_last(rt: HostRuntime) -> Result<(), Fail> {
 #[test]
 fn a_vertex_reaches_itself(rt: HostRuntime) -> Result<(), Fail> {
     let graph = five_vertices()?;
+    let oracle = Oracle {
+        graph: &graph,
+        labels: &[],
+        test: &SIX_TESTS,
+    };
     let mut opened = [9; 5];
-    assert_eq!(rt;
-        ask(&graph, &[], &SIX_TESTS, 2, 2, &mut opened),
-        answer(Verdict::Yes, 1, 0)
-    );
+    assert_eq!(rt; oracle.ask(2, 2, &mut opened), answer(Verdict::Yes, 1, 0));
     assert!(rt; opened == [9; 5]);
     Ok(())
 }
@@ -123,19 +128,15 @@ fn a_vertex_reaches_itself(rt: HostRuntime) -> Result<(), Fail> {
 #[test]
 fn refusals(rt: HostRuntime) -> Result<(), Fail> {
     let graph = five_vertices()?;
+    let oracle = Oracle {
+        graph: &graph,
+        labels: &[],
+        test: &Same,
+    };
     let mut opened = [9; 4];
-    assert_eq!(rt;
-        ask(&graph, &[], &Same, 5, 0, &mut opened),
-        Err(Refusal::NoVertex)
-    );
-    assert_eq!(rt;
-        ask(&graph, &[], &Same, 0, 5, &mut opened),
-        Err(Refusal::NoVertex)
-    );
-    assert_eq!(rt;
-        ask(&graph, &[], &Same, 0, 0, &mut opened),
-        Err(Refusal::ShortSlice)
-    );
+    assert_eq!(rt; oracle.ask(5, 0, &mut opened), Err(Refusal::NoVertex));
+    assert_eq!(rt; oracle.ask(0, 5, &mut opened), Err(Refusal::NoVertex));
+    assert_eq!(rt; oracle.ask(0, 0, &mut opened), Err(Refusal::ShortSlice));
     assert!(rt; opened == [9; 4]);
     Ok(())
 }
