@@ -135,6 +135,25 @@ fn long_input(rt: HostRuntime) {
     assert!(rt; &output[0..written] == b"fault=9 line=1\n".as_slice());
 }
 
+// What a fault says of itself.
+#[test]
+fn faults_in_words(rt: HostRuntime) -> Result<(), Fail> {
+    let heap = rt.alloc();
+    let form = FileFault {
+        fault: Fault::Form,
+        line: 1,
+    };
+    let text = format!(in heap; "{form}")?;
+    assert!(rt; text.as_str() == "line 1: the line has no permitted form");
+    let full = FileFault {
+        fault: Fault::Growth(graph::Refusal::LimitReached),
+        line: 2,
+    };
+    let text = format!(in heap; "{full}")?;
+    assert!(rt; text.as_str() == "line 2: the graph is full");
+    Ok(())
+}
+
 // The head of a collection of n vertices, and its arcs from 0 to each other one.
 fn star(heap: Global, n: u16) -> Result<String, Fail> {
     let mut text = format!(in heap; "library=1\npapers={n}\n")?;

@@ -1,5 +1,7 @@
 // The refusals and limits of the graph types.
-use graph::{Arc, ArcList, BitMatrix, Digraph, GrowableDigraph, Refusal, Reversed, add_vertices};
+use graph::{
+    Arc, ArcList, BitMatrix, Digraph, GrowableDigraph, Refusal, Reversed, Successors, add_vertices,
+};
 use std::process::Abort;
 use std::test::Fail;
 
@@ -136,5 +138,27 @@ fn reversed_reads_the_other_way(rt: HostRuntime) -> Result<(), Fail> {
     assert_eq!(rt; back.next_predecessor(1, 0), Some(2));
     let again = Reversed::new(&back);
     assert_eq!(rt; again.next_successor(1, 0), Some(2));
+    Ok(())
+}
+
+// Ascending, whatever the order of adding; none of a vertex that is none; and read against the arcs, the predecessors.
+#[test]
+fn successors_in_turn(rt: HostRuntime) -> Result<(), Fail> {
+    let mut table = [NO_ARC; 4];
+    let mut list = ArcList::new(&mut table);
+    add_vertices(&mut list, 4)?;
+    list.add_arc(0, 3)?;
+    list.add_arc(0, 1)?;
+    list.add_arc(2, 1)?;
+    let mut found = Successors::of(&list, 0);
+    assert_eq!(rt; found.next(), Some(1));
+    assert_eq!(rt; found.next(), Some(3));
+    assert_eq!(rt; found.next(), None);
+    assert_eq!(rt; Successors::of(&list, 4).next(), None);
+    let back = Reversed::new(&list);
+    let mut found = Successors::of(&back, 1);
+    assert_eq!(rt; found.next(), Some(0));
+    assert_eq!(rt; found.next(), Some(2));
+    assert_eq!(rt; found.next(), None);
     Ok(())
 }

@@ -11,7 +11,8 @@ use Rattle.answers.specs.Printed.{header_line, ask_line, trace_line, under_line}
 use Rattle.labels.specs.declared.decision.Decision.{Decision}
 use Rattle.labels.specs.Judges.{same}
 use Rattle.asking.specs.declared.answer.Answer.{Answer}
-use Rattle.asking.specs.Search.{label_at, told}
+use Rattle.labels.specs.Labels.{label_at}
+use Rattle.asking.specs.Search.{told}
 use Rattle.asking.specs.Questions.{Found, RightVerdict}
 use Rattle.search.specs.Trace.{Trace as Traced}
 use Rattle.collection.specs.declared.faults.Fault.{Fault}

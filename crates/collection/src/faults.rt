@@ -1,11 +1,13 @@
 // What ends the reading of a file early, and the line where it was found.
-ghost use Rattle.std.specs.Prelude.{◌≡◌, ℕ, Result};
-ghost use Rattle.collection.specs.Faults.{Placed, fault_number};
+ghost use Rattle.std.specs.Prelude.{◌≡◌, ℕ, Some, Result};
+ghost use Rattle.collection.specs.Faults.{Placed, fault_number, fault_text, file_fault_text};
 ghost use Rattle.collection.specs.declared.faults.At.{At};
 ghost use Rattle.collection.specs.declared.faults.Fault.TheVariants.{Growth, Question, Form, Size};
 
 use answers::output::NoRoom;
 use lines::NoForm;
+use std::error::Error;
+use std::fmt;
 
 #[derive(Clone, Copy, Debug, PartialEq, Eq)]
 pub enum Fault {
@@ -21,14 +23,14 @@ pub enum Fault {
     Order,
 }
 
-impl Fault {
-    // The number that stands for the fault in printed lines.
-    pub fn number(self) -> u16
-        ensures { result ≡ fault_number self }
-    {
-        match self {
-            Fault::Growth(refusal) => refusal.number(),
-            Fault::Question(refusal) => refusal.number(),
+// The number that stands for the fault in printed lines.
+impl From<Fault> for u16 {
+    ghost from_gives = { λ f n. n ≡ fault_number f };
+
+    fn from(fault: Fault) -> u16 {
+        match fault {
+            Fault::Growth(refusal) => u16::from(refusal),
+            Fault::Question(refusal) => u16::from(refusal),
             Fault::Size => 8,
             Fault::Form => 9,
             Fault::Order => 10,
@@ -36,12 +38,40 @@ impl Fault {
     }
 }
 
-// A fault and the number of its line.
+impl fmt::Display for Fault {
+    ghost output = { λ f. Some (fault_text f) };
+
+    fn fmt<W: fmt::Write>(&self, f: &mut fmt::Formatter<W>) -> fmt::Result {
+        match self {
+            Fault::Growth(refusal) => refusal.fmt(f),
+            Fault::Question(refusal) => refusal.fmt(f),
+            Fault::Size => f.write_str("there is no room for what was asked"),
+            Fault::Form => f.write_str("the line has no permitted form"),
+            Fault::Order => f.write_str("the line is out of place, or the file stops early"),
+        }
+    }
+}
+
+impl Error for Fault {}
+
+// A fault and the number of its line; 0 where it is found before the first, as it is printed.
 #[derive(Clone, Copy, Debug, PartialEq, Eq)]
 pub struct FileFault {
     pub fault: Fault,
     pub line: u32,
 }
+
+impl fmt::Display for FileFault {
+    ghost output = { λ f. Some (file_fault_text f) };
+
+    fn fmt<W: fmt::Write>(&self, f: &mut fmt::Formatter<W>) -> fmt::Result {
+        let line = self.line;
+        let fault = self.fault;
+        write!(f, "line {line}: {fault}")
+    }
+}
+
+impl Error for FileFault {}
 
 // An error and the number of the line that it came from.
 #[derive(Clone, Copy)]
@@ -108,9 +138,6 @@ impl<T, E> OnLine<T, E> for Result<T, E> {
     ghost placed = { λ s n r. Placed s n r };
 
     fn on(self, line: u32) -> Result<T, At<E>> {
-        match self {
-            Ok(x) => Ok(x),
-            Err(error) => Err(At { error, line }),
-        }
+        self.map_err(|error| At { error, line })
     }
 }

@@ -6,4 +6,4 @@ mod machine;
 mod reading;
 
 pub use faults::{Fault, FileFault};
-pub use reading::{Finished, run};
+pub use reading::{Finished, OUTPUT, run};

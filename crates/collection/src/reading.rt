@@ -18,9 +18,10 @@ const SPARE: usize = 64;
 const INPUT: usize = 16384;
 
 // The bytes of an output that is written.
-const OUTPUT: usize = 65536;
+pub const OUTPUT: usize = 65536;
 
-// Does what the line says, and prints its answer.
+// Does what the line says, and prints its answer. The output's length stands in each clause from here on: of an output that is held in a
+// struct of its own, it does not close that what is written comes back to the lent bytes. (`lent`: see `Output`.)
 fn take_line<G: GrowableDigraph>(
     machine: &mut Machine,
     graph: &mut G,
@@ -54,6 +55,7 @@ fn take_all<G: GrowableDigraph>(
 {
     let mut machine = Machine::new();
     let mut reader = Reader::new(input);
+    // counted beside the loop, since it is also the line at which a file stops early
     let mut number: u32 = 1;
     while let Some(line) = reader.next_line().on(number)? {
         take_line(&mut machine, graph, line, out).on(number)?;
@@ -116,7 +118,7 @@ pub fn run(input: &[u8], output: &mut [u8]) -> Finished
             fault: None,
         };
     };
-    let line = printed::fault(fault.fault.number(), fault.line);
+    let line = printed::fault(u16::from(fault.fault), fault.line);
     let _ = out.append(line.as_slice(), 0);
     Finished {
         written: out.used(),
