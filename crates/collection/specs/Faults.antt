@@ -19,9 +19,9 @@ fault_number Order = 10
 abbrev pub fault_text : Fault → List ℕ
 fault_text (Growth e) = growth_text e
 fault_text (Question e) = question_text e
-fault_text Size = codes "there is no room for what was asked"
+fault_text Size = codes "the input or the output is not of a permitted size, or the output is full"
 fault_text Form = codes "the line has no permitted form"
-fault_text Order = codes "the line is out of place, or the file stops early"
+fault_text Order = codes "the line is out of place, the count at end is wrong, or the file stops early"
 
 -- what a fault with its line says
 abbrev pub file_fault_text : FileFault → List ℕ

@@ -45,9 +45,13 @@ impl fmt::Display for Fault {
         match self {
             Fault::Growth(refusal) => refusal.fmt(f),
             Fault::Question(refusal) => refusal.fmt(f),
-            Fault::Size => f.write_str("there is no room for what was asked"),
+            Fault::Size => f.write_str(
+                "the input or the output is not of a permitted size, or the output is full",
+            ),
             Fault::Form => f.write_str("the line has no permitted form"),
-            Fault::Order => f.write_str("the line is out of place, or the file stops early"),
+            Fault::Order => f.write_str(
+                "the line is out of place, the count at end is wrong, or the file stops early",
+            ),
         }
     }
 }
