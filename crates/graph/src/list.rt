@@ -4,7 +4,7 @@ ghost use Rattle.std.proofs.Common.{lit≤};
 ghost use Rattle.graph.specs.Model.{Empty, NextSuccessor};
 ghost use Rattle.graph.specs.Facts.{list_proper, list_bounded};
 ghost use Rattle.graph.specs.ListModel.{list_model, list_arc_limit, places, taken as places_taken, list_order, entries};
-ghost use Rattle.graph.specs.Table.{has, head_from, nearer_to, swept, turned, along};
+ghost use Rattle.graph.specs.Table.{has, head_from, swept, turned, along};
 
 use crate::{Digraph, GrowableDigraph, Refusal};
 
@@ -45,13 +45,6 @@ impl Arc {
             None
         }
     }
-}
-
-// The vertex v, if it is not below `from` and lower than the best so far; otherwise that.
-fn nearer(v: u16, from: u16, best: u16) -> u16
-    ensures { result ≡ nearer_to from v best }
-{
-    if from <= v && v < best { v } else { best }
 }
 
 // Blots out each of the first `taken` entries that names the vertex n: what stands there draws no arc.
@@ -141,7 +134,8 @@ impl<'a> ArcList<'a> {
     fn has_entry(&self, u: u16, v: u16) -> bool
         ensures { result ≡ has (entries self.now) u v }
     {
-        self.entries().contains(&Arc { tail: u, head: v })
+        let arc = Arc { tail: u, head: v };
+        self.entries().iter().any(|entry| *entry == arc)
     }
 
     // The lowest v, not below `from`, with an arc u→v, where arcs are read that way.
@@ -152,12 +146,12 @@ impl<'a> ArcList<'a> {
         if u >= n {
             return None;
         }
-        // n is no vertex, and stands for none so far: what is found is then compared as a number
+        // n is no vertex, and stands for none, in an entry and so far: what is found is then compared as a number, and no entry takes a branch
         let mut best = n;
         for arc in self.entries() {
-            if let Some(v) = arc.turned(direction).head_from(u) {
-                best = nearer(v, from, best);
-            }
+            let v = arc.turned(direction).head_from(u).unwrap_or(n);
+            let v = if from <= v { v } else { n };
+            best = best.min(v);
         }
         if best < n { Some(best) } else { None }
     }
