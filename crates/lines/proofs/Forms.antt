@@ -1,9 +1,10 @@
 -- The permitted form of a line: its keyword, the sign and its numbers, and the line that they tell. Assumes nothing.
-use Rattle.std.proofs.Common.{◌≡◌, ℕ, ◌^◌, ◌<◌, List, Some, None, codes, decimal, Option, Result, Ok, Err, sym, refl, ap, ◌∙◌, subst, arith, rules, MatchOption, MatchResult, Bor}
+use Rattle.std.proofs.Common.{◌≡◌, ℕ, ◌^◌, ◌<◌, ◌≤◌, List, ◌∷◌, length, Some, None, codes, decimal, Option, Result, Ok, Err, sym, refl, ap, ◌∙◌, subst, arith, rules, MatchOption, MatchResult, Bor}
 use Rattle.std.specs.Int.{IsInRange}
 use Rattle.std.specs.List.{All}
 use Rattle.std.specs.Result.{result_ok}
 use Rattle.std.specs.Str.{IsUtf8}
+use Rattle.std.proofs.lemmas.List.{length-append}
 use Rattle.std.proofs.lemmas.List.Elements.{All-from_recursion, All-cons, All-append, All-weaker}
 use Rattle.std.proofs.lemmas.Str.{IsUtf8-from_ascii}
 use Rattle.std.proofs.lemmas.Str.Ascii.{IsAscii-from_all}
@@ -12,7 +13,7 @@ use Rattle.lines.specs.declared.Line.TheVariants.{Library, Papers, Arc, End, Ask
 use Rattle.lines.specs.Forms.{comma, decimal_pair, written, Fits, Writes, WritesNone, ParsesTo}
 use Rattle.lines.specs.Parts.{equals_sign, form}
 use Rattle.lines.proofs.Splits.{same_front, lacks_outside}
-use Rattle.lines.proofs.Numbers.{decimal_digits, same_number}
+use Rattle.lines.proofs.Numbers.{decimal_digits, five_digits, same_number}
 use Rattle.lines.proofs.Pairs.{same_pair}
 
 -- the word that a line begins with
@@ -76,6 +77,22 @@ written_bytes l f =
     let word = All-weaker (IsInRange 97 122) (IsInRange 44 122) (λ x p. (omega arith, p.1)) (keyword l) (keyword_letters l) in
     let value = All-weaker (IsInRange 44 57) (IsInRange 44 122) (λ x p. (p.0, omega arith)) (numbers l) (numbers_bytes l f) in
     rw (in_parts l) (All-append (IsInRange 44 122) (keyword l) _ word (All-cons (IsInRange 44 122) equals_sign (numbers l) (omega arith, omega arith) value))
+
+-- and no line has more than 17 bytes
+short_pair : (m n : ℕ) → (m < 2 ^ 16) × (n < 2 ^ 16) → length (decimal_pair m n) ≤ 11
+short_pair m n h = omega (arith, length-append (decimal m) (comma ∷ decimal n), five_digits m h.0, five_digits n h.1)
+
+written_short : (l : Line) → Fits l → length (written l) ≤ 17
+written_short (Library n) f = omega (arith, length-append (codes "library=") (decimal n), five_digits n f)
+written_short (Papers n) f = omega (arith, length-append (codes "papers=") (decimal n), five_digits n f)
+written_short (Arc u v) f = omega (arith, length-append (codes "arc=") (decimal_pair u v), short_pair u v f)
+written_short (End n) f = omega (arith, length-append (codes "end=") (decimal n), five_digits n f)
+written_short (Ask s t) f = omega (arith, length-append (codes "ask=") (decimal_pair s t), short_pair s t f)
+written_short (Trace s t) f = omega (arith, length-append (codes "trace=") (decimal_pair s t), short_pair s t f)
+written_short (Under s) f = omega (arith, length-append (codes "under=") (decimal s), five_digits s f)
+
+pub too_long : (bytes : List ℕ) → 17 < length bytes → WritesNone bytes
+too_long bytes h l w = omega (arith, written_short l w.fits, ap length w.text)
 
 -- a word that is no keyword begins no line
 pub no_keyword : (word value : List ℕ) → ((l : Line) → word ≡ keyword l → ⊥) → WritesNone (form word value)

@@ -1,11 +1,11 @@
 -- A number in decimal: its bytes, and what the tests of `parse_number` say of them. Assumes nothing.
-use Rattle.std.proofs.Common.{◌≡◌, ℕ, ◌^◌, ◌<◌, List, length, get_or, Ok, Err, decimal, Result, sym, ap, ◌∙◌, subst, ⊎_elim, arith, MatchOption}
+use Rattle.std.proofs.Common.{◌≡◌, ℕ, ◌^◌, ◌<◌, ◌≤◌, List, length, get_or, Ok, Err, decimal, Result, sym, ap, ◌∙◌, subst, ⊎_elim, arith, MatchOption}
 use Rattle.std.specs.Result.{result_ok}
 use Rattle.std.specs.Str.Parse.{digits_value, AllDigits, ParsesUnsigned}
 use Rattle.std.specs.Int.{IsInRange}
 use Rattle.std.specs.List.{All}
 use Rattle.std.proofs.lemmas.Str.Parse.{IsNumeralModel, numerals_by_value, tells_digits, tells_by_index, parse_plain}
-use Rattle.std.proofs.lemmas.Fmt.{parse-decimal, decimal-digits_value, digits_decimal, decimal_nonempty, first_decimal, decimal_digit, decimal_injective}
+use Rattle.std.proofs.lemmas.Fmt.{parse-decimal, length-decimal-le, decimal-digits_value, digits_decimal, decimal_nonempty, first_decimal, decimal_digit, decimal_injective}
 use Rattle.std.proofs.lemmas.List.Elements.{All-from_get_or}
 use Rattle.std.proofs.lemmas.Bool.{cases_lt}
 use Rattle.lines.specs.Parts.{WritesNumber}
@@ -13,6 +13,10 @@ use Rattle.lines.specs.Parts.{WritesNumber}
 -- a number is written with digits alone
 pub decimal_digits : (n : ℕ) → n < 2 ^ 16 → All (IsInRange 48 57) (decimal n)
 decimal_digits n h = All-from_get_or (IsInRange 48 57) (decimal n) 0 (digits_decimal (numerals_by_value _ tells_by_index) n (omega arith))
+
+-- in five digits at most
+pub five_digits : (n : ℕ) → n < 2 ^ 16 → length (decimal n) ≤ 5
+five_digits n h = length-decimal-le 5 n (omega arith) (omega arith) (omega arith)
 
 pub same_number : (m n : ℕ) → m < 2 ^ 16 → n < 2 ^ 16 → decimal m ≡ decimal n → m ≡ n
 same_number m n h l e = decimal_injective m n (omega arith) (omega arith) e

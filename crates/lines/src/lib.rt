@@ -23,11 +23,18 @@ pub enum Line {
     Under(u16),
 }
 
+// The bytes of the longest form, such as `trace=65535,65535`.
+const LONGEST: usize = 17;
+
 // The line whose permitted form `bytes` are, without the line feed; `None` where no line has that form.
 // (A function alone: `TryFrom` would say the same under a second name.)
 pub fn parse_line(bytes: &[u8]) -> Option<Line>
     ensures { ParsesTo bytes.now result }
 {
+    // No line is longer, and a longer text is refused before it is read.
+    if bytes.len() > LONGEST {
+        return None;
+    }
     let (word, value) = str::from_utf8(bytes).ok()?.split_once('=')?;
     parse_value(word, value)
 }

@@ -1,7 +1,7 @@
 use Rattle.std.proofs.Common.{◌≡◌, Some, sym, ◌∙◌, arith}
 use Rattle.lines.specs.Parts.{equals_sign, form}
 use Rattle.lines.proofs.Splits.{split_once_parts}
-use Rattle.lines.proofs.Forms.{no_line, same_bytes, parses_to, parses_to_none}
+use Rattle.lines.proofs.Forms.{no_line, same_bytes, too_long, parses_to, parses_to_none}
 use Rattle.lines.proofs.parse_line.Goals as goal
 
 pub returns-in_err-ok : goal.returns-in_err-ok
@@ -16,3 +16,6 @@ returns c =
     let parts = split_once_parts equals_sign text.now (Some (c.in_ok-word.word, c.in_ok-word.value)) c.in_ok-word.ensures.cases (omega arith) in
     let whole : c.args.bytes.now ≡ form c.in_ok-word.word.now c.in_ok-word.value.now = read ∙ parts.whole in
     parses_to _ _ (rw whole c.parse_value.ensures)
+
+pub returns-then-bytes-gt-LONGEST : goal.returns-then-bytes-gt-LONGEST
+returns-then-bytes-gt-LONGEST c = parses_to_none _ (too_long c.args.bytes.now (omega arith))
