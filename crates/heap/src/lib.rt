@@ -29,7 +29,8 @@ fn is_less<K: Ord + Copy>(heap: &[K], i: usize, j: usize) -> bool
     requires second { j < length heap.now }
     ensures { (d : K) → result ≡ is_lt (K.cmp (slice_index_or heap.now i d) (slice_index_or heap.now j d)) }
 {
-    heap[i] < heap[j]
+    // By `cmp`, of which the clause speaks: `<` asks `partial_cmp`, which is slower where keys are arrays.
+    heap[i].cmp(&heap[j]).is_lt()
 }
 
 // Moves the key at `last` up past the lesser keys above it.
