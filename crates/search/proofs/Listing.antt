@@ -4,7 +4,7 @@ use mathlib.Core.Bool.{Bool-set}
 use mathlib.Core.Logic.{∥∥₁_elim}
 use Rattle.std.proofs.lemmas.Bool.{cases_eq, eq-eqb, or_left, or_right}
 use Rattle.std.proofs.lemmas.Bool.Decides.{nat_tests}
-use Rattle.std.proofs.lemmas.List.{take_at, drop_at, drop-set-lt, drop-drop}
+use Rattle.std.proofs.lemmas.List.{take_more_set, drop-set-lt, drop-drop}
 use Rattle.std.proofs.ByRecursion.{All-weaker, All-push}
 use Rattle.std.specs.List.{AllByRecursion}
 use Rattle.graph.specs.Model.{Model, Proper}
@@ -52,19 +52,26 @@ module _ (m : Model) (s : ℕ) where
       all = λ x i q. ⊎_elim (λ (j : x ≡ v). absurd (f (subst (λ y. Reaches m s y) j q))) (λ (j : x ≡ v → ⊥). h.all x (omega arith) q) (cases_eq x v);
     }
 
-  -- the list is copied to the start of the slice
-  pub gathered : (list : List ℕ) {part before after : List ℕ} {count : ℕ} → part ≡ list → count ≡ length part → after ≡ part ++ drop (length part) before →
-      Proper m → s < m.order → Gathers m s m.order list → UnderWritten m s before after count
-  gathered list {part} {before} {after} {count} e is copy k b h =
-      let long = ap length e in
-      let front : take count after ≡ list = ap (take count) copy ∙ take_at part (drop (length part) before) count (sym is) ∙ e in
-      record {
-        lists = rw front (record {
-          ascending = h.ascending;
-          only = All-weaker _ (λ x. Reaches m s x) (λ x i. i.1) list h.only;
-          all = λ x r. ∥∥₁_elim r (Bool-set _ _) (λ p. h.all x (path_inside m k p b) r);
-        });
-        few = omega (arith, h.few);
-        below = rw front (All-weaker _ (λ x. x < m.order) (λ x i. i.0) list h.only);
-        rest = ap (drop count) copy ∙ drop_at part (drop (length part) before) count (sym is) ∙ ap (λ k. drop k before) (sym is);
-      }
+-- the first `count` entries of the slice are such a list, and the others are as before
+abbrev pub Stands : Model → ℕ → ℕ → List ℕ → List ℕ → ℕ → Type 0
+Stands m s v before out count = Gathers m s v (take count out) × ((count ≤ v) × (drop count out ≡ drop count before))
+
+module _ (m : Model) (s : ℕ) (before out : List ℕ) (count : ℕ) where
+  pub stands_kept : (v : ℕ) → Stands m s v before out count → v < length out → Reaches m s v → Stands m s (v + 1) before (set out count v) (count + 1)
+  stands_kept v (h, (le, rest)) room r =
+      (subst (Gathers m s (v + 1)) (sym (take_more_set out count v (omega arith))) (keeps m s v (take count out) h r), (omega arith, rest_more out before count v rest))
+
+  pub stands_skipped : (v : ℕ) → Stands m s v before out count → (Reaches m s v → ⊥) → Stands m s (v + 1) before out count
+  stands_skipped v (h, (le, rest)) f = (skips m s v (take count out) h f, (omega arith, rest))
+
+  pub gathered : Proper m → s < m.order → Stands m s m.order before out count → UnderWritten m s before out count
+  gathered k b (h, (few, rest)) = record {
+    lists = record {
+      ascending = h.ascending;
+      only = All-weaker _ (λ x. Reaches m s x) (λ x i. i.1) (take count out) h.only;
+      all = λ x r. ∥∥₁_elim r (Bool-set _ _) (λ p. h.all x (path_inside m k p b) r);
+    };
+    few = few;
+    below = All-weaker _ (λ x. x < m.order) (λ x i. i.0) (take count out) h.only;
+    rest = rest;
+  }

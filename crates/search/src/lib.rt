@@ -110,13 +110,15 @@ pub fn under<G: Digraph>(graph: &G, s: u16, out: &mut [u16]) -> Result<u16, Refu
     let n = graph.vertex_count();
     check_question(n, s, s, out.len())?;
     let marks = reached(graph, s);
-    let mut list = ArrayVec::<u16, MOST_VERTICES>::new();
+    // Each is written where it belongs. (To gather them in a vector was tried: a short answer took twice the time.)
+    let mut count: u16 = 0;
     for v in 0..n {
         if marks[v as usize] {
-            list.push(v);
+            out[count as usize] = v;
+            count += 1;
         }
     }
-    Ok(write_out(list.as_slice(), out))
+    Ok(count)
 }
 
 // What `under` promises leaves one answer and one content of the slice.
