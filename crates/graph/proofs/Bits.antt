@@ -1,9 +1,9 @@
 -- One bit more in a row of a square of bits. Assumes nothing.
 use Rattle.std.proofs.Common.{◌≡◌, ℕ, ◌+◌, ◌*◌, ◌%◌, ◌^◌, ◌<◌, ◌≤◌, Bool, true, false, cond, ◌&&◌, ◌||◌, eqb, bit_or, List, length, get_or, set, replicate, refl, arith}
-use Rattle.std.specs.Int.{w64}
+use Rattle.std.specs.Int.{w64, bit_at}
 use Rattle.std.proofs.lemmas.Bool.Decides.{nat_tests}
 use Rattle.std.proofs.lemmas.Grind.{common_steps}
-use Rattle.std.proofs.lemmas.Nat.Bits.{bit_at-zero, bit_at_set_same, bit_at_set_other}
+use Rattle.std.proofs.lemmas.Nat.Bits.{bit_at-zero, bit_at_or, bit_at-pow_same, bit_at-pow_other, bit_at_set_same, bit_at_set_other}
 use Rattle.graph.specs.Model.{sum_below, pairs}
 use Rattle.graph.specs.Square.{at}
 use Rattle.graph.proofs.Counts.{sum_max, sum_one, pairs_join}
@@ -17,17 +17,29 @@ pub at_set : (rows : List ℕ) (u v : ℕ) → u < length rows → v < 64 → (a
     at (set rows u (bit_or (get_or rows u 0) ((1 * 2 ^ v) % 2 ^ 64))) a b ≡ (at rows a b || (eqb a u && eqb b v))
 at_set rows u v lu lv a b = grind (arith, common_steps, bit_at_set_same w64 (get_or rows u 0) v lv, bit_at_set_other w64 (get_or rows u 0) v lv b)
 
+-- the same of 2 ^ v itself, at any place v
+pub at_set_power : (rows : List ℕ) (u v w : ℕ) → u < length rows → w ≡ 2 ^ v → (a b : ℕ) →
+    at (set rows u (bit_or (get_or rows u 0) w)) a b ≡ (at rows a b || (eqb a u && eqb b v))
+at_set_power rows u v w lu is a b =
+    let n = get_or rows u 0 in
+    let same : bit_at (bit_or n w) v ≡ 1 = rw is (omega (arith, bit_at_or n (2 ^ v) v, bit_at-pow_same v)) in
+    let other : (b ≡ v → ⊥) → bit_at (bit_or n w) b ≡ bit_at n b = λ apart. rw is (omega (arith, bit_at_or n (2 ^ v) b, bit_at-pow_other v b apart)) in
+    grind (arith, common_steps, same, other)
+
 -- 64 vertices have at most 4032 arcs
 sum_gap : (f : ℕ → ℕ) (n a : ℕ) → ((k : ℕ) → f k ≤ 1) → f a ≡ 0 → a < n → sum_below f n + 1 ≤ n
 sum_gap f n a h z l =
     let g : ℕ → ℕ = λ k. cond (eqb k a) 1 (f k) in
     grind (arith, nat_tests, sum_one f g n a, sum_max g n 1, h)
 
+bit_le_one : (b : Bool) → cond b 1 0 ≤ 1
+bit_le_one b = grind arith
+
 full : (p : ℕ → ℕ → Bool) (n : ℕ) → n ≤ 64 → ((a : ℕ) → p a a ≡ false) → pairs p n ≤ 4032
 unfolding pairs
 full p n l h =
     let row : ℕ → ℕ → ℕ = λ a b. cond (p a b) 1 0 in
-    let gap = λ (a : ℕ) (la : a < n). sum_gap (row a) n a (λ b. grind arith) (grind (arith, h a)) la in
+    let gap = λ (a : ℕ) (la : a < n). sum_gap (row a) n a (λ b. bit_le_one (p a b)) (grind (arith, h a)) la in
     omega (arith, sum_max (λ a. sum_below (row a) n) n 63 (λ a la. omega (arith, gap a la)))
 
 -- where a pair of different vertices is no arc, there is room for it
