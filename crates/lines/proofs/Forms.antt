@@ -11,8 +11,8 @@ use Rattle.std.proofs.lemmas.Str.Ascii.{IsAscii-from_all}
 use Rattle.lines.specs.declared.Line.{Line}
 use Rattle.lines.specs.declared.Line.TheVariants.{Library, Papers, Arc, End, Ask, Trace, Under}
 use Rattle.lines.specs.Forms.{comma, decimal_pair, written, Fits, Writes, WritesNone, ParsesTo}
-use Rattle.lines.specs.Parts.{equals_sign, form}
-use Rattle.lines.proofs.Splits.{same_front, lacks_outside}
+use Rattle.lines.specs.Parts.{equals_sign, form, Lacks, SplitsAt}
+use Rattle.lines.proofs.Splits.{same_split, same_front, not_lacked, lacks_outside}
 use Rattle.lines.proofs.Numbers.{decimal_digits, five_digits, same_number}
 use Rattle.lines.proofs.Pairs.{same_pair}
 
@@ -54,6 +54,18 @@ keyword_letters (End n) = All-from_recursion (IsInRange 97 122) (codes "end") (s
 keyword_letters (Ask s t) = All-from_recursion (IsInRange 97 122) (codes "ask") (search rules)
 keyword_letters (Trace s t) = All-from_recursion (IsInRange 97 122) (codes "trace") (search rules)
 keyword_letters (Under s) = All-from_recursion (IsInRange 97 122) (codes "under") (search rules)
+
+keyword_lacks : (l : Line) → Lacks (keyword l) equals_sign
+keyword_lacks l = lacks_outside 97 122 equals_sign (keyword l) (keyword_letters l) (λ p. omega arith)
+
+-- bytes with no sign are no line
+pub no_sign : (bytes : List ℕ) → Lacks bytes equals_sign → WritesNone bytes
+no_sign bytes p l w = not_lacked equals_sign (keyword l) (numbers l) (subst (λ t. Lacks t equals_sign) (w.text ∙ in_parts l) p)
+
+-- the parts of the form of l, split at the sign
+pub split_form : (bytes word value : List ℕ) (l : Line) → SplitsAt bytes equals_sign word value → Writes bytes l → (word ≡ keyword l) × (value ≡ numbers l)
+split_form bytes word value l p w =
+    same_split equals_sign word (keyword l) value (numbers l) p.first (keyword_lacks l) (sym p.whole ∙ w.text ∙ in_parts l)
 
 -- what follows the sign is made of digits and commas
 one_number : (n : ℕ) → n < 2 ^ 16 → All (IsInRange 44 57) (decimal n)
@@ -98,7 +110,7 @@ too_long bytes h l w = omega (arith, written_short l w.fits, ap length w.text)
 pub no_keyword : (word value : List ℕ) → ((l : Line) → word ≡ keyword l → ⊥) → WritesNone (form word value)
 no_keyword word value none l w =
     none l
-    (same_front equals_sign word (keyword l) value (numbers l) (lacks_outside 97 122 equals_sign (keyword l) (keyword_letters l) (λ p. omega arith))
+    (same_front equals_sign word (keyword l) value (numbers l) (keyword_lacks l)
     (lacks_outside 44 57 equals_sign (numbers l) (numbers_bytes l w.fits) (λ p. omega arith)) (w.text ∙ in_parts l))
 
 not_both : {A : Type 0} (x : A) → Some x ≡ None → ⊥

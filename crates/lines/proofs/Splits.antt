@@ -1,7 +1,8 @@
 -- Bytes split at a byte, which they do in one way only. Assumes nothing.
-use Rattle.std.proofs.Common.{◌≡◌, ℕ, suc, ◌<◌, None, Some, Option, List, [], ◌∷◌, ◌++◌, refl, subst, arith, Bor, MatchOption}
+use Rattle.std.proofs.Common.{◌≡◌, ℕ, zero, suc, ◌<◌, Bool, true, not, ◌&&◌, eqb, None, Some, Option, List, [], ◌∷◌, ◌++◌, refl, subst, arith, Bor, MatchOption}
 use Rattle.std.specs.Int.{IsInRange}
 use Rattle.std.specs.List.{All}
+use Rattle.std.proofs.lemmas.Bool.{both_ways, not-true, and_parts, eq-eqb}
 use Rattle.std.proofs.lemmas.Str.Pattern.{IsSplitOnceResult, split_parts}
 use Rattle.lines.specs.Parts.{Lacks, SplitsAt}
 
@@ -34,6 +35,25 @@ same_front b (x ∷ f) (y ∷ f') r r' p q e =
     let tail : f ++ b ∷ r ≡ f' ++ b ∷ r' = cc in
     let m = same_front b f f' r r' (λ k l. p (suc k) (omega arith)) q tail in
     cc
+
+-- bytes lack b if each of their parts does
+pub lacks_cons : (b x : ℕ) (xs : List ℕ) → (x ≡ b → ⊥) → Lacks xs b → Lacks (x ∷ xs) b
+lacks_cons b x xs n p zero l q = n q
+lacks_cons b x xs n p (suc k) l q = p k (omega arith) q
+
+pub lacks_append : (b : ℕ) (xs ys : List ℕ) → Lacks xs b → Lacks ys b → Lacks (xs ++ ys) b
+lacks_append b [] ys p q = q
+lacks_append b (x ∷ xs) ys p q = lacks_cons b x (xs ++ ys) (p 0 (omega arith)) (lacks_append b xs ys (λ k l. p (suc k) (omega arith)) q)
+
+-- a computed test that b stands nowhere in the bytes
+abbrev pub lacking : ℕ → List ℕ → Bool
+lacking b [] = true
+lacking b (x ∷ xs) = not (eqb x b) && lacking b xs
+
+pub lacks_by_test : (b : ℕ) (xs : List ℕ) → lacking b xs ≡ true → Lacks xs b
+lacks_by_test b [] e k l q = omega arith
+lacks_by_test b (x ∷ xs) e zero l q = both_ways (eqb x b) (not-true (eqb x b) (and_parts _ _ e).0) (eq-eqb x b q)
+lacks_by_test b (x ∷ xs) e (suc k) l q = lacks_by_test b xs (and_parts _ _ e).1 k (omega arith) q
 
 -- bytes in a range lack each byte outside it
 pub lacks_outside : (low high b : ℕ) (bs : List ℕ) → All (IsInRange low high) bs → (IsInRange low high b → ⊥) → Lacks bs b
