@@ -1,11 +1,11 @@
 -- What a line in the making keeps. Assumes nothing.
-use Rattle.std.proofs.Common.{eqb, true, false, ◌≡◌, ℕ, ◌+◌, ◌-◌, ◌*◌, ◌^◌, ◌<◌, ◌≤◌, min, zero, suc, List, [], ◌∷◌, ◌++◌, length, take, get_or, codes, decimal, sym, refl, ap, ◌∙◌, arith, append_assoc, length-append}
+use Rattle.std.proofs.Common.{eqb, true, false, ◌≡◌, ℕ, ◌+◌, ◌-◌, ◌*◌, ◌^◌, ◌<◌, ◌≤◌, min, zero, suc, List, [], ◌∷◌, ◌++◌, length, take, get_or, codes, decimal, sym, refl, ap, ◌∙◌, subst, arith, append_assoc, length-append}
 use Rattle.std.specs.List.{All, flat_map}
 use Rattle.std.proofs.Math.Seq.{take-append-add}
 use Rattle.std.proofs.lemmas.Bool.{eqb-true, eqb-false}
 use Rattle.std.proofs.lemmas.Fmt.{length-decimal-le}
 use Rattle.std.proofs.lemmas.Grind.{flat_map-append}
-use Rattle.std.proofs.lemmas.List.{append-nil, take_all, take_more, take_min, length-take}
+use Rattle.std.proofs.lemmas.List.{append-nil, take_all, take_more, take_min, length-take, length-take-le}
 use Rattle.std.proofs.lemmas.List.Concat.{length-flat_map}
 use Rattle.std.proofs.lemmas.List.Elements.{All-head, All-tail, All-weaker}
 use Rattle.std.proofs.lemmas.List.Sums.{sum_by-le}
@@ -70,6 +70,23 @@ gained_whole xs short e p = gained e p ∙ kept_all xs short
 abbrev pub behind_commas : List ℕ → List ℕ
 behind_commas = flat_map (λ x. codes "," ++ decimal x)
 
+-- a list of numbers, with one more
+commas_push : (xs : List ℕ) (x : ℕ) → 0 < length xs → commas (xs ++ x ∷ []) ≡ commas xs ++ 44 ∷ decimal x
+commas_push [] x h = absurd (omega arith)
+commas_push (y ∷ ys) x h =
+    let one : behind_commas (ys ++ x ∷ []) ≡ behind_commas ys ++ 44 ∷ decimal x = rw (flat_map-append, append-nil) refl in
+    ap (λ t. decimal y ++ t) one ∙ sym (append_assoc (decimal y) (behind_commas ys) (44 ∷ decimal x))
+
+pub commas_first : (xs : List ℕ) (i : ℕ) → i ≡ 0 → 0 < length xs → commas (take i xs) ++ decimal (get_or xs i 0) ≡ commas (take (i + 1) xs)
+commas_first [] i z h = absurd (omega arith)
+commas_first (x ∷ xs) i z h =
+    ap (λ j. commas (take j (x ∷ xs)) ++ decimal (get_or (x ∷ xs) j 0)) z ∙ sym (append-nil (decimal x)) ∙ ap (λ j. commas (take (j + 1) (x ∷ xs))) (sym z)
+
+pub commas_more : (xs : List ℕ) (i : ℕ) → 0 < i → i < length xs → commas (take i xs) ++ (44 ∷ [] ++ decimal (get_or xs i 0)) ≡ commas (take (i + 1) xs)
+commas_more xs i z h =
+    let l = length-take-le i xs (omega arith) in
+    sym (commas_push (take i xs) (get_or xs i 0) (omega arith)) ∙ ap commas (sym (take_more xs i 0 h))
+
 -- one number more behind the others
 pub behind_more : {h z y : List ℕ} (xs : List ℕ) (i : ℕ) → i < length xs → Gains h (behind_commas (take i xs)) y → Gains y (44 ∷ decimal (get_or xs i 0)) z → Gains h (behind_commas (take (i + 1) xs)) z
 behind_more xs i h p q = rw (take_more xs i 0 h, flat_map-append, append-nil) (gains_then p q)
@@ -92,13 +109,20 @@ commas_short (x ∷ xs) a =
     omega (arith, length-append (decimal x) (behind_commas xs), length-flat_map bytes xs, sum_by-le (λ y. length (bytes y)) 4 xs four, length-decimal-le 3)
 
 -- what is printed of a path
-pub path_none : {h z : List ℕ} (path : List ℕ) → eqb (length path) 0 ≡ true → Gains h (codes "none") z → Gains h (path_text path) z
-path_none [] e p = p
-path_none (x ∷ path) e p = absurd (omega (arith, eqb-true (length (x ∷ path)) 0 e))
+pub path_none : (p : List ℕ) → eqb (length p) 0 ≡ true → codes "none" ≡ path_text p
+path_none [] e = refl
+path_none (x ∷ p) e = absurd (omega (arith, eqb-true (length (x ∷ p)) 0 e))
 
-pub path_some : {h z : List ℕ} (path : List ℕ) → eqb (length path) 0 ≡ false → Gains h (commas path) z → Gains h (path_text path) z
-path_some [] e p = absurd (eqb-false (length {A = ℕ} []) 0 e refl)
-path_some (x ∷ path) e p = p
+pub path_some : (p : List ℕ) → eqb (length p) 0 ≡ false → commas p ≡ path_text p
+path_some [] e = absurd (eqb-false (length {A = ℕ} []) 0 e refl)
+path_some (x ∷ p) e = refl
+
+-- what has gained the one or the other has gained what is printed of the path
+pub gains_path_none : {h z : List ℕ} (path : List ℕ) → eqb (length path) 0 ≡ true → Gains h (codes "none") z → Gains h (path_text path) z
+gains_path_none {h = h} {z = z} path e p = subst (λ t. Gains h t z) (path_none path e) p
+
+pub gains_path_some : {h z : List ℕ} (path : List ℕ) → eqb (length path) 0 ≡ false → Gains h (commas path) z → Gains h (path_text path) z
+gains_path_some {h = h} {z = z} path e p = subst (λ t. Gains h t z) (path_some path e) p
 
 path_short : (path : List ℕ) → All (λ x. x < 1000) path → length (path_text path) ≤ 4 * length path + 4
 path_short [] a = omega arith
@@ -109,13 +133,13 @@ word_short Yes = omega arith
 word_short No = omega arith
 
 -- each printed line is short enough to be kept whole
-pub header_short : (l n m : ℕ) → l < 2 ^ 16 → n < 2 ^ 16 → m < 2 ^ 16 → length (header_line l n m) ≤ 2560
+pub header_short : (l n m : ℕ) → l < 2 ^ 16 → n < 2 ^ 16 → m < 2 ^ 16 → length (header_line l n m) ≤ 64
 header_short l n m p q r = simp length-append (omega (arith, length-decimal-le 5))
 
 pub fault_short : (f k : ℕ) → f < 2 ^ 16 → k < 2 ^ 32 → length (fault_line f k) ≤ 64
 fault_short f k p q = simp length-append (omega (arith, length-decimal-le 10))
 
-pub ask_short : (s t : ℕ) (v : Verdict) (k o : ℕ) → s < 2 ^ 16 → t < 2 ^ 16 → k < 2 ^ 16 → o < 2 ^ 16 → length (ask_line s t v k o) ≤ 2560
+pub ask_short : (s t : ℕ) (v : Verdict) (k o : ℕ) → s < 2 ^ 16 → t < 2 ^ 16 → k < 2 ^ 16 → o < 2 ^ 16 → length (ask_line s t v k o) ≤ 128
 ask_short s t v k o p q r u = simp length-append (omega (arith, length-decimal-le 5, word_short))
 
 pub under_short : (s : ℕ) (list : List ℕ) → s < 2 ^ 16 → length list ≤ 512 → All (λ x. x < 1000) list → length (under_line s list) ≤ 2560

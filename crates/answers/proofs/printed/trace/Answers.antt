@@ -1,15 +1,15 @@
 use Rattle.std.proofs.Common.{sym}
 use Rattle.answers.specs.Texts.{Gains}
 use Rattle.answers.specs.Printed.{path_text, trace_line}
-use Rattle.answers.proofs.Room.{gains_then, gains_pair, gained, gained_whole, path_none, path_some, trace_short}
+use Rattle.answers.proofs.Room.{gains_then, gains_pair, gained, gained_whole, gains_path_none, gains_path_some, trace_short}
 use Rattle.answers.proofs.printed.trace.Goals as goal
 use Rattle.answers.proofs.printed.trace.Goals.{then-is_empty, else-is_empty}
 
 path : (c : goal.After-text-3) → Gains c.text-2.new.self (path_text c.args.path.now) c.if-is_empty.line
 path c =
     elim c.if-is_empty.branch [
-      | then-is_empty w ↦ rw w.line-is (path_none _ (sym w.if-is_empty.ensures) w.text-then-is_empty.ensures)
-      | else-is_empty w ↦ rw w.line-is (path_some _ (sym w.if-is_empty.ensures) w.list-else-is_empty.ensures)
+      | then-is_empty w ↦ rw w.line-is (gains_path_none _ (sym w.if-is_empty.ensures) w.text-then-is_empty.ensures)
+      | else-is_empty w ↦ rw w.line-is (gains_path_some _ (sym w.if-is_empty.ensures) w.list-else-is_empty.ensures)
     ]
 
 pub returns : goal.returns
