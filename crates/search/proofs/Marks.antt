@@ -1,10 +1,11 @@
 -- What holds as the vertices that s reaches are marked. Assumes nothing.
-use Rattle.std.proofs.Common.{◌++◌, ◌≡◌, ℕ, ◌+◌, ◌<◌, ◌≤◌, Bool, true, false, cond, ◌⊎◌, List, [], ◌∷◌, length, get_or, set, replicate, Some, None, sym, ap, ◌∙◌, subst, inl, inr, ⊎_elim, arith, get_or-set_other, get_or-set_same, length-append}
+use Rattle.std.proofs.Common.{◌++◌, ◌≡◌, ℕ, ◌+◌, ◌<◌, ◌≤◌, Bool, true, false, cond, ◌⊎◌, List, [], ◌∷◌, length, get_or, take, set, replicate, Some, None, sym, ap, ◌∙◌, subst, inl, inr, ⊎_elim, arith, get_or-set_other, get_or-set_same, length-append}
 use mathlib.Core.Bool.{Bool-set}
 use mathlib.Core.Logic.{∥∥₁_elim}
 use Rattle.std.proofs.lemmas.Bool.{cases_eq, cases_lt, both_ways}
-use Rattle.std.proofs.lemmas.List.{get_or-replicate, get_or_past, length-replicate, length-set}
+use Rattle.std.proofs.lemmas.List.{get_or-replicate, get_or-take, get_or_past, length-replicate, length-set, length-take}
 use Rattle.std.specs.List.{Contains, count_by}
+use Rattle.std.proofs.Math.Seq.{take-set-lt}
 use Rattle.std.proofs.lemmas.List.Elements.{Contains-append_left, Contains-push, Contains-push_cases}
 use Rattle.std.proofs.lemmas.List.Sums.{count_by-le-length, sum_by-set}
 use Rattle.graph.specs.Model.{Model, Proper, NextSuccessor}
@@ -18,6 +19,11 @@ ones marks = count_by (λ b. b) marks
 
 pub ones_set : (marks : List Bool) (w : ℕ) → w < length marks → get_or marks w false ≡ false → ones (set marks w true) ≡ ones marks + 1
 ones_set marks w l e = grind (arith, sum_by-set (λ b. cond b 1 0) marks w true false l)
+
+-- and how many of the first n
+pub ones_front : (n w : ℕ) (marks : List Bool) → w < n → w < length marks → get_or marks w false ≡ false → ones (take n (set marks w true)) ≡ ones (take n marks) + 1
+ones_front n w marks h l e =
+    ap ones (take-set-lt n marks w true h) ∙ ones_set (take n marks) w (omega (arith, length-take n marks)) (get_or-take n marks w false h ∙ e)
 
 pub no_mark : (n k : ℕ) → get_or (replicate n false) k false ≡ false
 no_mark n k = ⊎_elim (get_or-replicate n k false false) (λ (l : n ≤ k). get_or_past (replicate n false) k false (simp length-replicate l)) (cases_lt k n)
@@ -34,7 +40,7 @@ Never x w = ⊥
 pub record Holds (m : Model) (s : ℕ) (late : ℕ → ℕ → Type 0) (waiting : List ℕ) (marks : List Bool) : Type 0 where
   pub proper : Proper m
   pub marks_size : length marks ≡ 512
-  pub room : length waiting ≤ ones marks
+  pub room : length waiting ≤ ones (take m.order marks)
   pub stacked : (x : ℕ) → Contains waiting x → Path m s x
   pub start : get_or marks s false ≡ true
   pub sound : (x : ℕ) → get_or marks x false ≡ true → Path m s x
@@ -60,7 +66,7 @@ module _ (m : Model) (s : ℕ) where
       record {
         proper = p;
         marks_size = length-set none s true ∙ length-replicate 512 false;
-        room = omega (arith, ones_set none s lm (no_mark 512 s));
+        room = omega (arith, ones_front m.order s none l lm (no_mark 512 s));
         stacked = λ x i. ⊎_elim (λ (k, l, _). absurd (omega (arith, l))) (λ (q : s ≡ x). subst (Path m s) q stay) (Contains-push_cases [] s x i);
         start = get_or-set_same none s true false lm;
         sound = λ x e. subst (Path m s) (sym (only x e)) stay;
@@ -79,21 +85,27 @@ module _ (m : Model) (s : ℕ) where
     closed = λ x w e a f g. h.closed x w e a (λ i. ⊎_elim f (λ (q : u ≡ x). g (sym q, omega arith)) (Contains-push_cases waiting u x i)) (λ n. n);
   }
 
-  module _ (waiting : List ℕ) (marks : List Bool) (u from : ℕ) (h : Holds m s (Late u from) waiting marks) where
-    -- an arc out of u that is still late is to w, or is so from w on
-    passes : (w : ℕ) → NextSuccessor m u from (Some w) → (x y : ℕ) → m.arc x y ≡ true → (y ≡ w → ⊥) → (Late u (w + 1) x y → ⊥) → Late u from x y → ⊥
-    passes w n x y a ne f (q, l) =
-        ⊎_elim (λ (b : y < w). both_ways (m.arc u y) (n.3 y l b) (subst (λ z. m.arc z y ≡ true) q a)) (λ (b : w ≤ y). f (q, omega arith)) (cases_lt y w)
+  -- an arc out of u that is still late is to w, or is so from w on
+  passes : (u from w : ℕ) → NextSuccessor m u from (Some w) → (x y : ℕ) → m.arc x y ≡ true → (y ≡ w → ⊥) → (Late u (w + 1) x y → ⊥) → Late u from x y → ⊥
+  passes u from w n x y a ne f (q, l) =
+      ⊎_elim (λ (b : y < w). both_ways (m.arc u y) (n.3 y l b) (subst (λ z. m.arc z y ≡ true) q a)) (λ (b : w ≤ y). f (q, omega arith)) (cases_lt y w)
 
+  module _ (waiting : List ℕ) (marks : List Bool) (u from : ℕ) (h : Holds m s (Late u from) waiting marks) where
     pub knowing : (w : ℕ) → NextSuccessor m u from (Some w) → get_or marks w false ≡ true → Holds m s (Late u (w + 1)) waiting marks
     knowing w n e = turned _ h (λ x y ex a f g.
-        ⊎_elim (λ (q : y ≡ w). ap (λ z. get_or marks z false) q ∙ e) (λ ne. h.closed x y ex a f (passes w n x y a ne g)) (cases_eq y w))
+        ⊎_elim (λ (q : y ≡ w). ap (λ z. get_or marks z false) q ∙ e) (λ ne. h.closed x y ex a f (passes u from w n x y a ne g)) (cases_eq y w))
 
     pub more : (w : ℕ) → w < m.order → get_or marks w false ≡ false → ones (set marks w true) ≡ ones marks + 1
     more w b e = ones_set marks w (omega (arith, h.marks_size, h.proper.small)) e
 
-    pub roomier : (w : ℕ) → w < m.order → get_or marks w false ≡ false → length waiting < 512
-    roomier w b e = omega (arith, h.room, more w b e, count_by-le-length (λ b. b) (set marks w true), length-set marks w true, h.marks_size)
+    -- of those below m.order, of which w is not marked yet, fewer wait than there are
+    more_in_front : (w : ℕ) → w < m.order → get_or marks w false ≡ false → ones (take m.order (set marks w true)) ≡ ones (take m.order marks) + 1
+    more_in_front w b e = ones_front m.order w marks b (omega (arith, h.marks_size, h.proper.small)) e
+
+    pub roomier : (w : ℕ) → w < m.order → get_or marks w false ≡ false → length waiting < m.order
+    roomier w b e =
+        let after = take m.order (set marks w true) in
+        omega (arith, h.room, more_in_front w b e, count_by-le-length (λ b. b) after, length-take m.order (set marks w true))
 
     pub putting : (w : ℕ) → Path m s u → NextSuccessor m u from (Some w) → get_or marks w false ≡ false →
         Holds m s (Late u (w + 1)) (waiting ++ w ∷ []) (set marks w true)
@@ -107,13 +119,13 @@ module _ (m : Model) (s : ℕ) where
         record {
           proper = h.proper;
           marks_size = length-set marks w true ∙ h.marks_size;
-          room = omega (arith, h.room, more w n.1 e, length-append waiting (w ∷ []));
+          room = omega (arith, h.room, more_in_front w n.1 e, length-append waiting (w ∷ []));
           stacked = λ x i. ⊎_elim (h.stacked x) (λ (q : w ≡ x). subst (Path m s) q there) (Contains-push_cases waiting w x i);
           start = grows s (inr h.start);
           sound = λ x ex. ⊎_elim (λ (q : x ≡ w). subst (Path m s) (sym q) there) (h.sound x) (set_mark marks w x ex);
           closed = λ x y ex a f g. grows y (⊎_elim inl (λ (ne : y ≡ w → ⊥). ⊎_elim
               (λ (q : x ≡ w). absurd (f (subst (Contains (waiting ++ w ∷ [])) (sym q) (Contains-push waiting w))))
-              (λ i. inr (h.closed x y i a (λ j. f (Contains-append_left waiting (w ∷ []) x j)) (passes w n x y a ne g)))
+              (λ i. inr (h.closed x y i a (λ j. f (Contains-append_left waiting (w ∷ []) x j)) (passes u from w n x y a ne g)))
               (set_mark marks w x ex)) (cases_eq y w));
         }
 

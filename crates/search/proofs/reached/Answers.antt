@@ -39,7 +39,7 @@ pub push-requires-then-not-marks-w : goal.push-requires-then-not-marks-w
 push-requires-then-not-marks-w g c =
     let inv = c.loop-w.invariant in
     let turn = turn_at g.G.Digraph.model c.loop-w.w-iterator.from (Some c.in-Some-w.w) _ inv.0 inv.1 c.in-Some-w.ensures.steps.2 in
-    (lit< tt, omega (arith, roomier _ c.args.s c.loop-w.waiting.items c.loop-w.marks _ _ inv.2 c.in-Some-w.w turn.0.1 c.if-not-marks-w.true))
+    (lit< tt, omega (arith, roomier _ c.args.s c.loop-w.waiting.items c.loop-w.marks _ _ inv.2 c.in-Some-w.w turn.0.1 c.if-not-marks-w.true, inv.2.proper.small))
 
 pub loop-w-preserved-then-not-marks-w : goal.loop-w-preserved-then-not-marks-w
 loop-w-preserved-then-not-marks-w g c =
