@@ -2,12 +2,20 @@
 use Rattle.std.proofs.Common.{◌≡◌, ℕ, List, length, take, Some, None, Ok, Err, Option, Result, sym, refl, ap, ◌∙◌}
 use Rattle.graph.specs.Model.{Model}
 use Rattle.labels.specs.declared.decision.Verdict.{Verdict}
+use Rattle.labels.specs.declared.decision.Verdict.TheVariants.{Yes, No}
 use Rattle.labels.specs.declared.decision.Decision.{Decision}
 use Rattle.asking.specs.declared.answer.Answer.{Answer}
 use Rattle.search.specs.declared.Refusal.{Refusal}
 use Rattle.search.proofs.Determined.{clash, same_refusal, same_written}
 use Rattle.asking.specs.Search.{Place, Runs, ends, opens, finds, drops, knows, puts, leaves}
 use Rattle.asking.specs.Questions.{Found, Asked}
+
+-- a test says one thing at most
+yes_or_no : {A : Type 0} (o : Option Decision) (d e : Decision) → o ≡ Some d → d.verdict ≡ Yes → o ≡ Some e → e.verdict ≡ No → A
+yes_or_no o d e p q i j = absurd (cc)
+
+told_or_not : {A : Type 0} (o : Option Decision) (d : Decision) → o ≡ Some d → o ≡ None → A
+told_or_not o d p q = absurd (cc)
 
 -- from one place the search ends in one way
 one_end : (g : Model) (tells : ℕ → Option Decision) {place : Place} {waiting put opened all all' : List ℕ} {v v' : Verdict} →
