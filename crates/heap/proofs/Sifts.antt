@@ -33,6 +33,13 @@ module _ {X : Type 0} (cmp : X → X → Ordering) where
   abbrev pub Sinking : (ℕ → X) → ℕ → ℕ → Type 0
   Sinking = Loose parent
 
+  -- where a heap begins to be sifted
+  pub rising_from : (xs : List X) (last : ℕ) → Heaped cmp xs last → (d : X) → Rising (λ m. get_or xs m d) last (last + 1)
+  rising_from xs last h d = record { edges = λ k z b n. h k z (omega arith) d; across = λ k z b e. absurd (omega arith) }
+
+  pub sinking_from : (xs : List X) (end : ℕ) → HeapedPast cmp xs end → (d : X) → Sinking (λ m. get_or xs m d) 0 end
+  sinking_from xs end h d = record { edges = λ k z b n. h k (omega arith) b d; across = λ k z b e. absurd (omega arith) }
+
   module _ (o : IsTotalOrder cmp) where
     turned : (x y : X) → is_lt (cmp x y) ≡ true → is_lt (cmp y x) ≡ false
     turned = (ranks_by o (λ x. x)).one_way
