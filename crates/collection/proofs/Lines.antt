@@ -1,5 +1,5 @@
 -- One line of a file, and the reading that goes on from it. Assumes nothing.
-use Rattle.std.proofs.Common.{◌≡◌, ℕ, ◌+◌, ◌<◌, ◌≤◌, List, [], ◌∷◌, ◌++◌, length, drop, Ok, Err, Option, Result, sym, ap, ◌∙◌, arith}
+use Rattle.std.proofs.Common.{◌≡◌, ℕ, ◌+◌, ◌<◌, ◌≤◌, List, [], ◌∷◌, ◌++◌, length, drop, Ok, Err, Option, Result, sym, refl, ap, ◌∙◌, arith}
 use Rattle.std.proofs.lemmas.List.{append-nil, append_assoc, length-append, length-drop, drop-drop, take-append-drop}
 use Rattle.graph.specs.Model.{Model}
 use Rattle.lines.specs.declared.Line.{Line}
@@ -43,6 +43,10 @@ module _ (o : Output) (xs : List ℕ) (p : Output) (g : Grows o xs p) where
     past = h.past ∙ ap (drop (length ys)) g.past ∙ drop-drop (length ys) (length xs) (beyond o) ∙ ap (λ k. drop k (beyond o)) (sym (length-append xs ys));
   }
 
+-- nothing more
+pub grows_none : (o : Output) → Grows o [] o
+grows_none o = record { used = omega arith; text = sym (append-nil (text_of o)); past = refl }
+
 -- a fault by its parts
 file_fault : (y : FileFault) (f : Fault) (n : ℕ) → y.fault ≡ f → y.line ≡ n → y ≡ record { fault = f; line = n }
 file_fault y f n p q = λ i. record { fault = p i; line = q i }
@@ -58,6 +62,17 @@ pub record Reading (most limit : ℕ) (g₀ : Model) (input : List ℕ) (o₀ : 
   pub few : m.arcs < n
   pub printed : Printed o₀ text o
   pub on : (more : List ℕ) (r : Result (Unit {0}) FileFault) → Reads most limit m g n o.used left more r → Reads most limit start g₀ 1 0 input (text ++ more) r
+
+-- at the start, before the first line
+pub reading_starts : (most limit : ℕ) (g₀ : Model) (input : List ℕ) (o₀ : Output) (m : Machine) → m ≡ start → (left : List ℕ) → left ≡ input →
+    length input ≤ 16384 → o₀.used ≡ 0 → length (bytes_of o₀) ≡ 65536 → Reading most limit g₀ input o₀ m g₀ 1 left o₀
+reading_starts most limit g₀ input o₀ m e left i short z size = record {
+  text = [];
+  short = omega (arith, ap length i);
+  few = omega (arith, ap (λ x. x.arcs) e);
+  printed = record { grows = grows_none o₀; size = size; spare = omega arith };
+  on = λ more r run. rw (e, i, z) at run;
+}
 
 module _ {most limit : ℕ} {g₀ : Model} {input : List ℕ} {o₀ : Output} {m : Machine} {g : Model} {n : ℕ} {left : List ℕ} {o : Output}
     (h : Reading most limit g₀ input o₀ m g n left o) where
@@ -109,3 +124,7 @@ module _ {most limit : ℕ} {g₀ : Model} {input : List ℕ} {o₀ : Output} {m
 
   pub file_stops : left ≡ [] → (m.place ≡ AmongQuestions → ⊥) → AllDone most limit g₀ input o₀ (Err (record { fault = Order; line = n })) o
   file_stops e p = ends (Err (record { fault = Order; line = n })) (rw e (early p))
+
+-- a line and its line feed are some bytes
+pub shorter : (s t : List ℕ) (l : Line) → BeginsWith s l t → length t < length s
+shorter s t l b = omega (arith, ap length b.text, length-append (written l) (10 ∷ t))

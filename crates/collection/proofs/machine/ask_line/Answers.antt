@@ -1,14 +1,9 @@
-use Rattle.std.proofs.Common.{◌≡◌, ℕ, ◌<◌, eqb, None, take, refl, arith}
+use Rattle.std.proofs.Common.{eqb, take, refl}
 use Rattle.std.proofs.lemmas.Bool.{ne_eqb}
-use Rattle.std.proofs.lemmas.Bool.Decides.{nat_tests}
-use Rattle.search.specs.Refusals.{refusal_of_two}
 use Rattle.asking.proofs.Verdicts.{found_claim, verdict_right, first_right, first_goal}
 use Rattle.collection.specs.Moves.{equality}
+use Rattle.collection.proofs.Answering.{vertices}
 use Rattle.collection.proofs.machine.ask_line.Goals as goal
-
--- a question that is not refused names vertices
-vertices : (n s t room : ℕ) → refusal_of_two n s t room ≡ None → (s < n) × (t < n)
-vertices n s t room e = (grind (arith, nat_tests), grind (arith, nat_tests))
 
 pub returns : goal.returns
 returns g c =
