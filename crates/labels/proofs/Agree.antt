@@ -3,7 +3,7 @@ use Rattle.std.proofs.Common.{◌≡◌, ℕ, zero, suc, ◌+◌, ◌<◌, ◌�
 use mathlib.Core.Bool.{beq, Bool-set}
 use mathlib.Core.Logic.{∥∥₁_elim}
 use Rattle.std.specs.Bool.{Decides}
-use Rattle.std.proofs.lemmas.Bool.{false≢true, leb-true, le-leb}
+use Rattle.std.proofs.lemmas.Bool.{false≢true, and_parts, and_from, leb-true, le-leb}
 use Rattle.std.proofs.lemmas.Bool.Decides.{Decides-and, Decides-or, Decides-like, Decides-eqb, Decides-ltb}
 use Rattle.graph.specs.Model.{Model, Proper}
 use Rattle.graph.specs.Square.{flagged}
@@ -78,14 +78,35 @@ both_backward P a b (suc (suc zero)) h = a
 both_backward P a b (suc (suc (suc zero))) h = b
 both_backward P a b (suc (suc (suc (suc r)))) h = let l = h.high in absurd (let z : ⊥ = omega arith in z)
 
--- a rule that is one test for forward rows and another for backward rows
+row_two : Backward 2
+row_two = record { low = omega arith; high = omega arith }
+
+row_three : Backward 3
+row_three = record { low = omega arith; high = omega arith }
+
+-- a rule that is one test for forward rows and another for backward rows, each half by itself and both at once
+module _ (fore back : ℕ → Bool) (Fore Back : ℕ → Type 0) where
+  rows_sound :
+      ((r : ℕ) → fore r ≡ true → Fore r) → ((r : ℕ) → back r ≡ true → Back r) → ((fore 0 && fore 1) && (back 2 && back 3)) ≡ true
+      → ((r : ℕ) → Forward r → Fore r) × ((r : ℕ) → Backward r → Back r)
+  rows_sound f h t =
+      let a = and_parts (fore 0 && fore 1) (back 2 && back 3) t in
+      let b = and_parts (fore 0) (fore 1) a.0 in
+      let c = and_parts (back 2) (back 3) a.1 in
+      (both_forward Fore (f 0 b.0) (f 1 b.1), both_backward Back (h 2 c.0) (h 3 c.1))
+
+  rows_full :
+      ((r : ℕ) → Fore r → fore r ≡ true) → ((r : ℕ) → Back r → back r ≡ true) → ((r : ℕ) → Forward r → Fore r) → ((r : ℕ) → Backward r → Back r)
+      → ((fore 0 && fore 1) && (back 2 && back 3)) ≡ true
+  rows_full f h p q =
+      and_from (fore 0 && fore 1) (back 2 && back 3) (and_from (fore 0) (fore 1) (f 0 (p 0 (omega arith))) (f 1 (p 1 (omega arith))))
+      (and_from (back 2) (back 3) (h 2 (q 2 row_two)) (h 3 (q 3 row_three)))
+
 rows_tell :
     (fore back : ℕ → Bool) (Fore Back : ℕ → Type 0) → ((r : ℕ) → Decides (fore r) (Fore r)) → ((r : ℕ) → Decides (back r) (Back r))
     → Decides ((fore 0 && fore 1) && (back 2 && back 3)) (((r : ℕ) → Forward r → Fore r) × ((r : ℕ) → Backward r → Back r))
 rows_tell fore back Fore Back f b =
-    Decides-like _ (λ ((x, y), (z, w)). (both_forward Fore x y, both_backward Back z w))
-    (λ (h, k). ((h 0 (omega arith), h 1 (omega arith)), (k 2 (record { low = omega arith; high = omega arith }), k 3 (record { low = omega arith; high = omega arith }))))
-    (Decides-and _ _ (Decides-and _ _ (f 0) (f 1)) (Decides-and _ _ (b 2) (b 3)))
+    (rows_sound fore back Fore Back (λ r. (f r).0) (λ r. (b r).0), λ (h, k). rows_full fore back Fore Back (λ r. (f r).1) (λ r. (b r).1) h k)
 
 module _ (g : Model) (proper : Proper g) (labels : Labels) (supp : Supports) (v : ℕ) where
   out : (w : ℕ) → g.arc v w ≡ true → w < g.order

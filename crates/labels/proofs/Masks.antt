@@ -1,12 +1,24 @@
 -- Masks by their bits. Assumes nothing.
-use Rattle.std.proofs.Common.{◌≡◌, ℕ, ◌<◌, ◌^◌, not, eqb, ap, ◌∙◌, inl, inr, arith}
+use Rattle.std.proofs.Common.{◌≡◌, ℕ, zero, suc, ◌*◌, ◌/◌, ◌%◌, ◌^◌, ◌<◌, not, eqb, sym, ap, ◌∙◌, inl, inr, pow-suc, arith}
 use Rattle.std.specs.Int.{bit_at}
 use lib.Bits.{bit_and, and_le_l}
-use Rattle.std.proofs.lemmas.Nat.Bits.{bit_at_and, bit_at-lt, bit_at-zero, same_from_bits_below}
+use Rattle.std.proofs.lemmas.Nat.Bits.{bit_at_and, bit_at_lowest, bit_at-suc, bit_at-lt, bit_at-zero, same_from_bits_below}
 use Rattle.std.proofs.lemmas.Bool.{eqb-true, eq-eqb, true_from_ne_false, cases_eq}
 use Rattle.std.proofs.lemmas.Bool.Decides.{same_from_decides, not_from_Decides, Decides-not, Decides-eqb}
 use Rattle.labels.specs.Judges.{meets, exceeds}
 use Rattle.labels.specs.BoundedLemmas.{meets_tells, exceeds_tells}
+
+-- two different numbers of k bits differ in one of them
+differ_at : (k x y : ℕ) → x < 2 ^ k → y < 2 ^ k → (x ≡ y → ⊥) → (i : ℕ) × (i < k) × (x / 2 ^ i % 2 ≡ y / 2 ^ i % 2 → ⊥)
+differ_at zero x y hx hy ne = absurd (ne (omega arith))
+differ_at (suc k) x y hx hy ne =
+    let p : 2 ^ suc k ≡ 2 ^ k * 2 = pow-suc 2 k in
+    elim (cases_eq (x % 2) (y % 2)) [
+      | inl e ↦
+          let (i, lt, off) = differ_at k (x / 2) (y / 2) (omega arith) (omega arith) (omega arith) in
+          (suc i, omega arith, λ f. off (sym (bit_at-suc x i) ∙ f ∙ bit_at-suc y i))
+      | inr n ↦ (0, omega arith, λ f. n (sym (bit_at_lowest x) ∙ f ∙ bit_at_lowest y))
+    ]
 
 pub meets_mask : (m n : ℕ) → m < 2 ^ 16 → not (eqb (bit_and m n) 0) ≡ meets m n
 meets_mask m n hm =
