@@ -85,17 +85,16 @@ fn reached<G: Digraph>(graph: &G, s: u16) -> [bool; MOST_VERTICES]
     ensures { Marked (G.Digraph.model graph.now) s result }
 {
     let mut marks = [false; MOST_VERTICES];
-    if s >= graph.vertex_count() {
-        return marks;
-    }
-    let mut waiting = ArrayVec::<u16, MOST_VERTICES>::new();
-    marks[s as usize] = true;
-    waiting.push(s);
-    'search: while let Some(u) = waiting.pop() {
-        for w in Successors::of(graph, u) {
-            if !marks[w as usize] {
-                marks[w as usize] = true;
-                waiting.push(w);
+    if s < graph.vertex_count() {
+        let mut waiting = ArrayVec::<u16, MOST_VERTICES>::new();
+        marks[s as usize] = true;
+        waiting.push(s);
+        'search: while let Some(u) = waiting.pop() {
+            for w in Successors::of(graph, u) {
+                if !marks[w as usize] {
+                    marks[w as usize] = true;
+                    waiting.push(w);
+                }
             }
         }
     }

@@ -6,8 +6,8 @@ use Rattle.search.proofs.Marks.{Holds, begins, opening, knowing, putting, leavin
 use Rattle.search.proofs.Lists.{none_left}
 use Rattle.search.proofs.reached.Goals as goal
 
-pub returns-then-s-vertex_count : goal.returns-then-s-vertex_count
-returns-then-s-vertex_count g c = search (rules, outside, g.met.G.Digraph.proper)
+pub returns-else-s-vertex_count : goal.returns-else-s-vertex_count
+returns-else-s-vertex_count g c = search (rules, outside, g.met.G.Digraph.proper)
 
 pub search-init : goal.search-init
 search-init g c =
@@ -66,5 +66,5 @@ loop-w-preserved g c =
       inv.4,
     )
 
-pub returns : goal.returns
-returns g c = search (rules, ending, none_left)
+pub returns-in_default : goal.returns-in_default
+returns-in_default g c = search (rules, ending, none_left)
