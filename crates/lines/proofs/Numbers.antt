@@ -1,5 +1,5 @@
 -- A number in decimal: its bytes, and what the tests of `parse_number` say of them. Assumes nothing.
-use Rattle.std.proofs.Common.{◌≡◌, ℕ, ◌^◌, ◌<◌, ◌≤◌, List, length, get_or, Ok, Err, decimal, Result, sym, ap, ◌∙◌, subst, ⊎_elim, arith, MatchOption}
+use Rattle.std.proofs.Common.{◌≡◌, ℕ, ◌^◌, ◌<◌, ◌≤◌, List, length, get_or, Ok, Err, decimal, Result, sym, ap, ◌∙◌, subst, ⊎_elim, arith, MatchOption, Option}
 use Rattle.std.specs.Result.{result_ok}
 use Rattle.std.specs.Str.Parse.{digits_value, AllDigits, ParsesUnsigned}
 use Rattle.std.specs.Int.{IsInRange}
@@ -54,3 +54,7 @@ module _ {E : Type 0} (s : List ℕ) (plus : get_or s 0 0 ≡ 43 → ⊥) (lead 
       let p = parse_plain base_ten {E = E} 16 s (Ok x) h plus in
       subst (WritesNumber s) (sym p.1) (writes_value s p.0.0 p.0.1 lead p.0.2)
   parsed (Err e) h = λ n w. let same = parse-decimal 16 n s (Err e) w.fits (omega (arith, w.fits)) w.text h in cc
+
+  -- and so of every answer that equals it
+  pub as_parsed : (r : Result ℕ E) → ParsesUnsigned 16 10 s r → (a : Option ℕ) → a ≡ result_ok r → MatchOption a ((n : ℕ) → WritesNumber s n → ⊥) (WritesNumber s)
+  as_parsed r h a e = rw e (parsed r h)

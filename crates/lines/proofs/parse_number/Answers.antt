@@ -1,6 +1,6 @@
-use Rattle.std.proofs.Common.{refl, arith}
+use Rattle.std.proofs.Common.{refl, arith, rules}
 use Rattle.std.proofs.lemmas.Str.Pattern.{starts_char}
-use Rattle.lines.proofs.Numbers.{not_signed, not_padded, parsed}
+use Rattle.lines.proofs.Numbers.{not_signed, not_padded, as_parsed}
 use Rattle.lines.proofs.parse_number.Goals.{then-starts_with-via-then-starts_with, then-starts_with-via-else-starts_with+then-has_leading_zero}
 use Rattle.lines.proofs.parse_number.Goals as goal
 
@@ -18,5 +18,6 @@ returns c =
     let s = c.args.text.now in
     let plus = starts_char 43 s c.starts_with.result c.starts_with.ensures.cases (omega arith) (omega arith) in
     let no_plus = c.if-starts_with.false in
-    rw c.ok.ensures.value
-    (parsed s (λ q. let yes = plus.1 q in cc) (λ q. let yes = c.if-has_leading_zero.ensures.1 q in cc) c.parse.result c.parse.ensures.value.0)
+    -- whichever call is the last, that it answers what `parse` does is for `search` to find
+    as_parsed s (λ q. let yes = plus.1 q in cc) (λ q. let yes = c.if-has_leading_zero.ensures.1 q in cc) c.parse.result c.parse.ensures.value.0 _
+    (search rules)
