@@ -1,11 +1,11 @@
 -- What a line in the making keeps. Assumes nothing.
-use Rattle.std.proofs.Common.{eqb, true, false, ◌≡◌, ℕ, ◌+◌, ◌-◌, ◌*◌, ◌^◌, ◌<◌, ◌≤◌, min, zero, suc, List, [], ◌∷◌, ◌++◌, length, take, get_or, codes, decimal, sym, refl, ap, ◌∙◌, subst, arith, append_assoc, length-append}
+use Rattle.std.proofs.Common.{eqb, true, false, ◌≡◌, ℕ, ◌+◌, ◌-◌, ◌*◌, ◌^◌, ◌<◌, ◌≤◌, min, zero, suc, List, [], ◌∷◌, ◌++◌, length, take, get_or, set, codes, decimal, sym, refl, ap, ◌∙◌, subst, arith, append_assoc, length-append}
 use Rattle.std.specs.List.{All, flat_map}
 use Rattle.std.proofs.Math.Seq.{take-append-add}
 use Rattle.std.proofs.lemmas.Bool.{eqb-true, eqb-false}
 use Rattle.std.proofs.lemmas.Fmt.{length-decimal-le}
 use Rattle.std.proofs.lemmas.Grind.{flat_map-append}
-use Rattle.std.proofs.lemmas.List.{append-nil, take_all, take_more, take_min, length-take, length-take-le}
+use Rattle.std.proofs.lemmas.List.{append-nil, take_all, take_more, take_more_set, take-append-le, take_min, length-take, length-take-le}
 use Rattle.std.proofs.lemmas.List.Concat.{length-flat_map}
 use Rattle.std.proofs.lemmas.List.Elements.{All-head, All-tail, All-weaker}
 use Rattle.std.proofs.lemmas.List.Sums.{sum_by-le}
@@ -45,6 +45,19 @@ gains_none h few = record { is = sym (ap kept (append-nil h) ∙ kept_all h few)
 pub gains_empty : {h : List ℕ} (xs : List ℕ) → length h ≤ 2560 → length xs ≡ 0 → Gains h (commas xs) h
 gains_empty {h = h} [] few e = gains_none h few
 gains_empty (x ∷ xs) few e = absurd (omega arith)
+
+-- a byte where there is room, and where there is none
+pub gains_byte : (bytes : List ℕ) (n b : ℕ) → length bytes ≡ 2560 → n < 2560 → Gains (take n bytes) (b ∷ []) (take (n + 1) (set bytes n b))
+gains_byte bytes n b e h =
+    let l = length-take-le n bytes (omega arith) in
+    record { is = take_more_set bytes n b (omega arith) ∙ sym (kept_all (take n bytes ++ b ∷ []) (omega (arith, length-append (take n bytes) (b ∷ [])))) }
+
+pub gains_full : (bytes : List ℕ) (n b : ℕ) → length bytes ≡ 2560 → n ≤ 2560 → 2560 ≤ n → Gains (take n bytes) (b ∷ []) (take n bytes)
+unfolding kept
+gains_full bytes n b e h g =
+    let l = length-take-le n bytes (omega arith) in
+    let s : take 2560 (take n bytes) ≡ take n bytes = take_all 2560 (take n bytes) (omega arith) in
+    record { is = sym (take-append-le 2560 (take n bytes) (b ∷ []) (omega arith) ∙ s) }
 
 -- one text after another
 pub gains_then : {h a z xs ys : List ℕ} → Gains h xs a → Gains a ys z → Gains h (xs ++ ys) z

@@ -2,3 +2,4 @@ mod Kept
 pub mod Verdicts
 mod Steps
 mod Determined
+mod Ending

@@ -1,9 +1,10 @@
 -- What holds of the code's variables as a search runs. Assumes nothing.
-use Rattle.std.proofs.Common.{◌≡◌, ℕ, ◌+◌, ◌<◌, ◌≤◌, Bool, true, false, ◌||◌, List, [], ◌∷◌, ◌++◌, reverse, length, get_or, take, set, replicate, Some, None, Option, sym, refl, ap, ◌∙◌, ⊎_elim, arith, get_or-set_other, get_or-set_same, length-append}
-use Rattle.std.proofs.lemmas.Bool.{cases_eq, eq-eqb, ne_eqb}
+use Rattle.std.proofs.Common.{◌≡◌, ℕ, zero, suc, ◌+◌, ◌<◌, ◌≤◌, Bool, true, false, cond, ◌||◌, List, [], ◌∷◌, ◌++◌, reverse, length, get_or, take, set, replicate, Some, None, Option, sym, refl, ap, ◌∙◌, ⊎_elim, arith, get_or-set_other, get_or-set_same, length-append}
+use Rattle.std.proofs.lemmas.Bool.{cond_both, cases_eq, eq-eqb, ne_eqb}
 use Rattle.std.proofs.lemmas.List.{take_more_set, length-replicate, length-set, reverse-append}
 use Rattle.std.specs.List.{AllByRecursion}
-use Rattle.graph.specs.Model.{Model, Proper, NextSuccessor}
+use Rattle.graph.specs.Model.{Model, Proper, NextSuccessor, sum_below}
+use Rattle.graph.proofs.Counts.{sum_max, sum_one}
 use Rattle.labels.specs.declared.decision.Verdict.{Verdict}
 use Rattle.labels.specs.declared.decision.Verdict.TheVariants.{Yes, No}
 use Rattle.labels.specs.declared.decision.Decision.{Decision}
@@ -11,6 +12,7 @@ use Rattle.asking.specs.Search.{Place, between, at, Runs, ends, opens, finds, dr
 use Rattle.search.specs.Under.{has, Distinct}
 use Rattle.search.specs.Successors.{successors_from}
 use Rattle.search.proofs.Distinct.{pigeonhole}
+use Rattle.search.proofs.Lists.{has_first}
 use Rattle.search.proofs.Successors.{successors_end, successors_next}
 use Rattle.search.proofs.Marks.{no_mark}
 
@@ -52,6 +54,57 @@ marks_more marks w x put l e =
     (λ (q : x ≡ w). ap (λ y. get_or (set marks w true) y false) q ∙ get_or-set_same marks w true false l ∙ sym (ap (λ y. y || has x put) (eq-eqb x w q)))
     (λ (q : x ≡ w → ⊥). get_or-set_other marks w x true false q ∙ e ∙ sym (ap (λ y. y || has x put) (ne_eqb x w q)))
     (cases_eq x w)
+
+-- how many of the first n marks are set
+abbrev pub set_marks : ℕ → List Bool → ℕ
+set_marks n marks = sum_below (λ w. cond (get_or marks w false) 1 0) n
+
+-- no more than n are
+pub set_marks_le : (n : ℕ) (marks : List Bool) → set_marks n marks ≤ n
+unfolding sum_below
+set_marks_le zero marks = omega arith
+set_marks_le (suc n) marks =
+    let one : cond (get_or marks n false) 1 0 ≤ 1 = cond_both (get_or marks n false) 1 0 (λ x. x ≤ 1) (λ _. omega arith) (λ _. omega arith) in
+    omega (arith, set_marks_le n marks)
+
+-- one more, where there was no mark
+pub one_mark_more : (n w : ℕ) (marks : List Bool) → w < n → w < length marks → get_or marks w false ≡ false → set_marks n (set marks w true) ≡ set_marks n marks + 1
+one_mark_more n w marks b l e =
+    sum_one (λ x. cond (get_or marks x false) 1 0) (λ x. cond (get_or (set marks w true) x false) 1 0) n w b
+    (ap (λ x. cond x 1 0) (get_or-set_same marks w true false l) ∙ sym (ap (λ x. cond x 1 0 + 1) e))
+    (λ k ne. ap (λ x. cond x 1 0) (get_or-set_other marks w k true false ne))
+
+-- of distinct numbers below n each is one of these
+set_marks_put : (n : ℕ) (put : List ℕ) → Distinct put → AllByRecursion (λ v. v < n) put → sum_below (λ w. cond (has w put) 1 0) n ≡ length put
+set_marks_put n [] d a = omega (arith, sum_max (λ w. cond (has w []) 1 0) n 0 (λ w _. omega arith))
+set_marks_put n (x ∷ xs) d a =
+    omega (
+      arith,
+      set_marks_put n xs d.1 a.1,
+      sum_one (λ w. cond (has w xs) 1 0) (λ w. cond (has w (x ∷ xs)) 1 0) n x a.0
+          (ap (λ b. cond b 1 0) (has_first x xs) ∙ sym (ap (λ b. cond b 1 0 + 1) d.0))
+          (λ k ne. ap (λ b. cond (b || has k xs) 1 0) (ne_eqb k x ne)),
+    )
+
+-- the marks of a list are as many as those numbers
+set_marks_same : (n : ℕ) (marks : List Bool) (put : List ℕ) → ((w : ℕ) → w < n → get_or marks w false ≡ has w put) → set_marks n marks ≡ sum_below (λ w. cond (has w put) 1 0) n
+unfolding sum_below
+set_marks_same zero marks put h = refl
+set_marks_same (suc n) marks put h =
+    let top = ap {B = ℕ} (λ b. cond b 1 0) (h n (omega arith)) in
+    omega (arith, set_marks_same n marks put (λ w l. h w (omega arith)))
+
+module _ {m : Model} {tells : ℕ → Option Decision} {s : ℕ} {place : Place} {waiting : List ℕ} {marks : List Bool} {count : ℕ} {opened : List ℕ}
+    (h : Holds m tells s place waiting marks count opened) where
+  -- as many marks are set as vertices were put
+  pub marked : set_marks m.order marks ≡ count + length waiting
+  marked = set_marks_same m.order marks h.put h.marks_put ∙ set_marks_put m.order h.put h.once h.inside ∙ h.put_size
+
+  -- there is room for one vertex more
+  pub roomier : (w : ℕ) → w < m.order → get_or marks w false ≡ false → count + length waiting < m.order
+  roomier w b k =
+      let l : w < length marks = omega (arith, h.marks_size, h.small) in
+      omega (arith, marked, one_mark_more m.order w marks b l k, set_marks_le m.order (set marks w true))
 
 module _ (m : Model) (tells : ℕ → Option Decision) (s : ℕ) where
   pub begins : (opened : List ℕ) → Proper m → s < m.order → Holds m tells s between (s ∷ []) (set (replicate 512 false) s true) 0 opened

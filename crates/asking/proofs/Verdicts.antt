@@ -1,7 +1,7 @@
 -- Where what is said is right, the verdict of a search is right. Assumes nothing.
 use Rattle.std.proofs.Common.{◌≡◌, ℕ, ◌-◌, ◌<◌, Bool, true, false, eqb, List, [], ◌∷◌, ◌++◌, Some, None, Option, sym, refl, ap, ◌∙◌, subst, ⊎_elim, arith}
 use mathlib.Core.Logic.{∥∥₁_map}
-use Rattle.std.proofs.lemmas.Bool.{eqb-true, eqb-false, eq-eqb, ne_eqb, false≢true, or_cases, or_left, or_right, or_from, both_ways}
+use Rattle.std.proofs.lemmas.Bool.{cases_Bool, eqb-true, eqb-false, eq-eqb, ne_eqb, false≢true, or_cases, or_left, or_right, or_from, both_ways}
 use Rattle.std.proofs.ByRecursion.{All-weaker}
 use Rattle.std.specs.List.{AllByRecursion}
 use Rattle.graph.specs.Model.{Model, Proper}
@@ -24,9 +24,15 @@ use Rattle.search.proofs.Successors.{passing_pass, passing_has}
 use Rattle.asking.proofs.Kept.{Ahead, Kept, kept_starts, kept_opens, kept_passes, kept_puts, kept_leaves}
 
 -- x is among the successors that are left
-abbrev Left : Place → ℕ → Type 0
+abbrev pub Left : Place → ℕ → Type 0
 Left between x = ⊥
 Left (at ws) x = has x ws ≡ true
+
+-- the head of an arc out of an opened vertex was put, or does not reach t, or is yet to be looked at
+pub data Fine (m : Model) (t : ℕ) (place : Place) (put : List ℕ) (x : ℕ) : Type 0 where
+  was_put : has x put ≡ true → Fine m t place put x
+  leads_off : (Reaches m x t → ⊥) → Fine m t place put x
+  is_left : Left place x → Fine m t place put x
 
 record Sure (m : Model) (s t : ℕ) (place : Place) (waiting put opened : List ℕ) : Type 0 where
   reached : AllByRecursion (λ w. Path m s w) waiting
@@ -42,6 +48,44 @@ shut : (m : Model) (s t : ℕ) (put opened : List ℕ) → Kept m between [] put
 shut m s t put opened k i stay q h = both_ways (has t put) i.apart (k.same t ∙ ap (λ y. has y opened) (sym q) ∙ h)
 shut m s t put opened k i (walk {u} {v} a p) q h =
     i.closed u v h a (λ j. shut m s t put opened k i p q (sym (k.same v) ∙ j)) (λ b. b) ∣ subst (Path m v) q p ∣₁
+
+-- what `closed` of `Sure` says of a head is one of these three
+pub fine : (m : Model) (t : ℕ) (place : Place) (put : List ℕ) (x : ℕ) → ((has x put ≡ true → ⊥) → (Left place x → ⊥) → Reaches m x t → ⊥) → Fine m t place put x
+fine m t between put x f =
+    ⊎_elim (λ (e : has x put ≡ true). was_put e) (λ (e : has x put ≡ false). leads_off (f (λ i. both_ways (has x put) e i) (λ b. b))) (cases_Bool (has x put))
+fine m t (at ws) put x f =
+    ⊎_elim (λ (e : has x put ≡ true). was_put e)
+    (λ (e : has x put ≡ false). ⊎_elim (λ (i : has x ws ≡ true). is_left i)
+    (λ (i : has x ws ≡ false). leads_off (f (λ j. both_ways (has x put) e j) (λ j. both_ways (has x ws) i j)))
+    (cases_Bool (has x ws)))
+    (cases_Bool (has x put))
+
+-- with none waiting, of such a head that leads to t it cannot be that it was not opened
+pub next : (m : Model) (t : ℕ) (put opened : List ℕ) → Kept m between [] put opened → {v y : ℕ} → Path m v y → y ≡ t →
+    Fine m t between put v → (has v opened ≡ true → ⊥) → ⊥
+next m t put opened k {v} p q (was_put j) f = f (sym (k.same v) ∙ j)
+next m t put opened k {v} p q (leads_off j) f = j ∣ subst (Path m v) q p ∣₁
+next m t put opened k {v} p q (is_left j) f = j
+
+-- a successor that is no more to be looked at
+pub passed : (m : Model) (t w : ℕ) (rest put put' : List ℕ) → ((x : ℕ) → has x put ≡ true → has x put' ≡ true) → Fine m t (at rest) put' w →
+    (x : ℕ) → Fine m t (at (w ∷ rest)) put x → Fine m t (at rest) put' x
+passed m t w rest put put' grows here x (was_put h) = was_put (grows x h)
+passed m t w rest put put' grows here x (leads_off f) = leads_off f
+passed m t w rest put put' grows here x (is_left h) =
+    ⊎_elim (λ (p : x ≡ w). subst (λ y. Fine m t (at rest) put' y) (sym p) here) (λ (p : has x rest ≡ true). is_left p) (entry x w rest h)
+
+-- a head of the vertices opened before, as one more is opened
+pub old_opens : (m : Model) (t u : ℕ) (put : List ℕ) (w : ℕ) → Fine m t between put w → Fine m t (at (successors_from m u 0)) put w
+old_opens m t u put w (was_put h) = was_put h
+old_opens m t u put w (leads_off f) = leads_off f
+old_opens m t u put w (is_left b) = absurd b
+
+-- and as it is left
+pub old_leaves : (m : Model) (t : ℕ) (put : List ℕ) (w : ℕ) → Fine m t (at []) put w → Fine m t between put w
+old_leaves m t put w (was_put h) = was_put h
+old_leaves m t put w (leads_off f) = leads_off f
+old_leaves m t put w (is_left b) = absurd (false≢true b)
 
 module _ (m : Model) (proper : Proper m) (tells : ℕ → Option Decision) (s t : ℕ)
     (right : (w : ℕ) → w < m.order → RightIfAny m w t (tells w)) (goal : (w : ℕ) → tells w ≡ None → w ≡ t → ⊥) where
@@ -112,6 +156,16 @@ module _ (m : Model) (proper : Proper m) (tells : ℕ → Option Decision) (s t 
 pub verdict_right : (m : Model) (s t : ℕ) (v : Verdict) → Claim m s t v → RightVerdict m s t v
 verdict_right m s t Yes c = record { yes_only = λ _. c; yes_all = λ _. refl; no_only = λ e. absurd (cc); no_all = λ f. absurd (f c) }
 verdict_right m s t No c = record { yes_only = λ e. absurd (cc); yes_all = λ r. absurd (c r); no_only = λ _. c; no_all = λ _. refl }
+
+-- what is said first, where the equality holds
+pub said_same : (b : Bool) (o : Option Decision) → b ≡ true → first (on_ground 1 (says b Yes)) o ≡ Some (record { verdict = Yes; ground = 1 })
+said_same true o e = refl
+said_same false o e = absurd (false≢true e)
+
+-- and where it does not
+pub said_other : (b : Bool) (o : Option Decision) → b ≡ false → first (on_ground 1 (says b Yes)) o ≡ o
+said_other true o e = absurd (false≢true (sym e))
+said_other false o e = refl
 
 -- what the equality says of w and t is right, and it says something of t
 module _ (m : Model) (w t : ℕ) (o : Option Decision) where

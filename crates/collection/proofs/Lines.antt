@@ -1,5 +1,5 @@
 -- One line of a file, and the reading that goes on from it. Assumes nothing.
-use Rattle.std.proofs.Common.{◌≡◌, ℕ, ◌+◌, ◌<◌, ◌≤◌, List, [], ◌∷◌, ◌++◌, length, drop, Ok, Err, Option, Result, sym, refl, ap, ◌∙◌, arith}
+use Rattle.std.proofs.Common.{◌≡◌, ℕ, ◌+◌, ◌<◌, ◌≤◌, List, [], ◌∷◌, ◌++◌, length, drop, Some, None, Ok, Err, Option, Result, sym, refl, ap, ◌∙◌, subst, arith}
 use Rattle.std.proofs.lemmas.List.{append-nil, append_assoc, length-append, length-drop, drop-drop, take-append-drop}
 use Rattle.graph.specs.Model.{Model}
 use Rattle.lines.specs.declared.Line.{Line}
@@ -14,8 +14,14 @@ use Rattle.collection.specs.declared.machine.Place.TheVariants.{AmongQuestions}
 use Rattle.collection.specs.declared.faults.FileFault.{FileFault}
 use Rattle.collection.specs.declared.machine.Machine.{Machine}
 use Rattle.collection.specs.Moves.{start}
-use Rattle.collection.specs.Runs.{Reads, whole, early, no_form, stopped, taken}
+use Rattle.collection.specs.Runs.{Stopped, Reads, whole, early, no_form, stopped, taken}
 use Rattle.collection.specs.Parts.{LineDone, Printed, AllDone}
+
+-- a line that is stopped, and what `take_line` then answers
+pub stops : (most limit : ℕ) (m : Machine) (g : Model) (o : Output) (l : Line) (r : Result (Unit {0}) Fault) (m' : Machine) (g' : Model) (o' : Output) (y f : Fault) →
+    r ≡ Err y → y ≡ f → Stopped most limit m g o.used l f → o'.used ≡ o.used → bytes_of o' ≡ bytes_of o → LineDone most limit m g o l r m' g' o'
+stops most limit m g o l r m' g' o' y f e is s u w =
+    subst (λ q. LineDone most limit m g o l q m' g' o') (sym (e ∙ ap (λ x. Err x) is)) (s, u, w)
 
 -- an output and a text that fits behind it
 module _ (o : Output) (xs : List ℕ) (p : Output) (g : Grows o xs p) where
@@ -124,6 +130,14 @@ module _ {most limit : ℕ} {g₀ : Model} {input : List ℕ} {o₀ : Output} {m
 
   pub file_stops : left ≡ [] → (m.place ≡ AmongQuestions → ⊥) → AllDone most limit g₀ input o₀ (Err (record { fault = Order; line = n })) o
   file_stops e p = ends (Err (record { fault = Order; line = n })) (rw e (early p))
+
+-- what a step of the reader says at a line
+pub begins : (s t : List ℕ) (r : Result (Option Line) NoForm) (o : Option Line) (l : Line) → Steps s r t → r ≡ Ok o → o ≡ Some l → BeginsWith s l t
+begins s t r o l h p q = subst (λ x. Steps s x t) (p ∙ ap (λ x. Ok x) q) h
+
+-- and at the end
+pub ended : (s t : List ℕ) (r : Result (Option Line) NoForm) (o : Option Line) → Steps s r t → r ≡ Ok o → o ≡ None → s ≡ []
+ended s t r o h p q = (subst (λ x. Steps s x t) (p ∙ ap (λ x. Ok x) q) h).0
 
 -- a line and its line feed are some bytes
 pub shorter : (s t : List ℕ) (l : Line) → BeginsWith s l t → length t < length s

@@ -17,6 +17,10 @@ unfolding sum_below
 sum_max f zero m h = omega arith
 sum_max f (suc n) m h = omega (arith, h n, sum_max f n m (λ k l. h k (omega arith)), suc-mul n m)
 
+-- noughts add up to nought
+pub sum_zero : (f : ℕ → ℕ) (n : ℕ) → ((k : ℕ) → k < n → f k ≡ 0) → sum_below f n ≡ 0
+sum_zero f n h = omega (arith, sum_max f n 0 (λ k l. omega (arith, h k l)))
+
 -- at one place a one more, elsewhere the same
 pub sum_one : (f g : ℕ → ℕ) (n a : ℕ) → a < n → g a ≡ f a + 1 → ((k : ℕ) → (k ≡ a → ⊥) → g k ≡ f k) → sum_below g n ≡ sum_below f n + 1
 unfolding sum_below
@@ -26,6 +30,11 @@ sum_one f g (suc n) a l e h = grind (arith, sum_same f g n, sum_one f g n a, h)
 pub pairs_same : (p q : ℕ → ℕ → Bool) (n : ℕ) → ((a b : ℕ) → q a b ≡ p a b) → pairs q n ≡ pairs p n
 unfolding pairs
 pairs_same p q n h = sum_same _ _ n (λ a _. sum_same _ _ n (λ b _. grind (arith, h a b)))
+
+-- where the test passes no pair there is none
+pub pairs_none : (p : ℕ → ℕ → Bool) (n : ℕ) → ((a b : ℕ) → p a b ≡ false) → pairs p n ≡ 0
+unfolding pairs
+pairs_none p n h = sum_zero _ n (λ a _. sum_zero _ n (λ b _. grind (arith, h a b)))
 
 -- one pair more
 pub pairs_join : (p q : ℕ → ℕ → Bool) (n u v : ℕ) → u < n → v < n → p u v ≡ false →

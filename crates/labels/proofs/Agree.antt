@@ -1,5 +1,5 @@
 -- The tests that compute agree with the rules. Assumes nothing.
-use Rattle.std.proofs.Common.{◌≡◌, ℕ, zero, suc, ◌+◌, ◌<◌, ◌≤◌, Bool, true, false, ◌&&◌, eqb, leb, ◌↔◌, refl, arith}
+use Rattle.std.proofs.Common.{◌≡◌, ℕ, zero, suc, ◌+◌, ◌<◌, ◌≤◌, Bool, true, false, ◌&&◌, ◌||◌, eqb, leb, ◌⊎◌, ◌↔◌, refl, arith}
 use mathlib.Core.Bool.{beq, Bool-set}
 use mathlib.Core.Logic.{∥∥₁_elim}
 use Rattle.std.specs.Bool.{Decides}
@@ -57,13 +57,25 @@ greatest_tells :
 greatest_tells = extreme_tells (λ a b. a ≤ b) leb le_tells
 
 -- the bits of one mask
-bit_tells :
-    (n : ℕ) (supp : Supports) (among : ℕ → Bool) → ((u : ℕ) → among u ≡ true → u < n) → (mask : ℕ → ℕ) (v i : ℕ)
-    → Decides (bit_exact n supp among mask v i) (BitExact supp (λ u. among u ≡ true) mask v i)
-unfolding bit_exact
-bit_tells n supp among inside mask v i =
-    beq_tells (flagged (mask v) i) _ (hidden _ (Decides-or _ _ (Decides-eqb (supp i) v)
-    (some_among n among inside (λ u. flagged (mask u) i) (λ u. flagged (mask u) i ≡ true) (λ u. itself (flagged (mask u) i)))))
+module _ (n : ℕ) (supp : Supports) (among : ℕ → Bool) (inside : (u : ℕ) → among u ≡ true → u < n) (mask : ℕ → ℕ) (v i : ℕ) where
+  -- v is support i, or one of those that are among has bit i
+  bit_owed :
+      Decides (eqb (supp i) v || some_below n (λ u. among u && flagged (mask u) i)) ∥ (supp i ≡ v) ⊎ ((u : ℕ) × (among u ≡ true) × (flagged (mask u) i ≡ true)) ∥₁
+  bit_owed =
+      hidden _ (Decides-or _ _ (Decides-eqb (supp i) v)
+      (some_among n among inside (λ u. flagged (mask u) i) (λ u. flagged (mask u) i ≡ true) (λ u. itself (flagged (mask u) i))))
+
+  -- what the test finds, and what makes it true
+  pub bit_found : (eqb (supp i) v || some_below n (λ u. among u && flagged (mask u) i)) ≡ true → ∥ (supp i ≡ v) ⊎ ((u : ℕ) × (among u ≡ true) × (flagged (mask u) i ≡ true)) ∥₁
+  bit_found t = bit_owed.0 t
+
+  pub bit_made : ∥ (supp i ≡ v) ⊎ ((u : ℕ) × (among u ≡ true) × (flagged (mask u) i ≡ true)) ∥₁ → (eqb (supp i) v || some_below n (λ u. among u && flagged (mask u) i)) ≡ true
+  bit_made t = bit_owed.1 t
+
+  -- and v has the bit exactly then
+  bit_tells : Decides (bit_exact n supp among mask v i) (BitExact supp (λ u. among u ≡ true) mask v i)
+  unfolding bit_exact
+  bit_tells = beq_tells (flagged (mask v) i) _ bit_owed
 
 -- what holds in both forward rows, and in both backward rows
 both_forward : (P : ℕ → Type 0) → P 0 → P 1 → (r : ℕ) → Forward r → P r

@@ -1,19 +1,15 @@
 -- The permitted form of a line: its keyword, the sign and its numbers, and the line that they tell. Assumes nothing.
-use Rattle.std.proofs.Common.{◌≡◌, ℕ, ◌^◌, ◌<◌, ◌≤◌, List, ◌∷◌, length, Some, None, codes, decimal, Option, Result, Ok, Err, sym, refl, ap, ◌∙◌, subst, arith, rules, MatchOption, MatchResult, Bor}
+use Rattle.std.proofs.Common.{◌≡◌, ℕ, ◌^◌, ◌<◌, ◌≤◌, List, ◌∷◌, length, Some, None, codes, decimal, Option, sym, refl, ap, ◌∙◌, subst, arith, rules, MatchOption}
 use Rattle.std.specs.Int.{IsInRange}
 use Rattle.std.specs.List.{All}
-use Rattle.std.specs.Result.{result_ok}
-use Rattle.std.specs.Str.{IsUtf8}
 use Rattle.std.proofs.lemmas.List.{length-append}
 use Rattle.std.proofs.lemmas.List.Elements.{All-from_recursion, All-cons, All-append, All-weaker}
-use Rattle.std.proofs.lemmas.Str.{IsUtf8-from_ascii}
-use Rattle.std.proofs.lemmas.Str.Ascii.{IsAscii-from_all}
 use Rattle.lines.specs.declared.Line.{Line}
 use Rattle.lines.specs.declared.Line.TheVariants.{Library, Papers, Arc, End, Ask, Trace, Under}
 use Rattle.lines.specs.Forms.{comma, decimal_pair, written, Fits, Writes, WritesNone, ParsesTo}
 use Rattle.lines.specs.Parts.{equals_sign, form, Lacks, SplitsAt}
 use Rattle.lines.proofs.Splits.{same_split, same_front, not_lacked, lacks_outside}
-use Rattle.lines.proofs.Numbers.{decimal_digits, five_digits, same_number}
+use Rattle.lines.proofs.Numbers.{decimal_digits, decimal_short, same_number}
 use Rattle.lines.proofs.Pairs.{same_pair}
 
 -- the word that a line begins with
@@ -92,16 +88,16 @@ written_bytes l f =
 
 -- and no line has more than 17 bytes
 short_pair : (m n : ℕ) → (m < 2 ^ 16) × (n < 2 ^ 16) → length (decimal_pair m n) ≤ 11
-short_pair m n h = omega (arith, length-append (decimal m) (comma ∷ decimal n), five_digits m h.0, five_digits n h.1)
+short_pair m n h = omega (arith, length-append (decimal m) (comma ∷ decimal n), decimal_short m h.0, decimal_short n h.1)
 
 written_short : (l : Line) → Fits l → length (written l) ≤ 17
-written_short (Library n) f = omega (arith, length-append (codes "library=") (decimal n), five_digits n f)
-written_short (Papers n) f = omega (arith, length-append (codes "papers=") (decimal n), five_digits n f)
+written_short (Library n) f = omega (arith, length-append (codes "library=") (decimal n), decimal_short n f)
+written_short (Papers n) f = omega (arith, length-append (codes "papers=") (decimal n), decimal_short n f)
 written_short (Arc u v) f = omega (arith, length-append (codes "arc=") (decimal_pair u v), short_pair u v f)
-written_short (End n) f = omega (arith, length-append (codes "end=") (decimal n), five_digits n f)
+written_short (End n) f = omega (arith, length-append (codes "end=") (decimal n), decimal_short n f)
 written_short (Ask s t) f = omega (arith, length-append (codes "ask=") (decimal_pair s t), short_pair s t f)
 written_short (Trace s t) f = omega (arith, length-append (codes "trace=") (decimal_pair s t), short_pair s t f)
-written_short (Under s) f = omega (arith, length-append (codes "under=") (decimal s), five_digits s f)
+written_short (Under s) f = omega (arith, length-append (codes "under=") (decimal s), decimal_short s f)
 
 pub too_long : (bytes : List ℕ) → 17 < length bytes → WritesNone bytes
 too_long bytes h l w = omega (arith, written_short l w.fits, ap length w.text)
@@ -115,21 +111,6 @@ no_keyword word value none l w =
 
 not_both : {A : Type 0} (x : A) → Some x ≡ None → ⊥
 not_both x e = let z : ◌≡◌ {A = ℕ} 0 1 = cc in omega arith
-
--- a line is text, so bytes that are no text are no line
-no_text : (bytes : List ℕ) → (IsUtf8 bytes → ⊥) → WritesNone bytes
-no_text bytes n l w =
-    n (rw w.text (IsUtf8-from_ascii _ (IsAscii-from_all _ (All-weaker (IsInRange 44 122) (λ b. b < 128) (λ x p. omega arith) (written l) (written_bytes l w.fits)))))
-
--- what `from_utf8` answers of bytes
-module _ {E : Type 0} (Q : E → Type 0) (bytes : List ℕ) where
-  pub no_line : (r : Result (Bor (List ℕ)) E) → MatchResult r (λ s. (s.now ≡ bytes) × IsUtf8 bytes) (λ e. (IsUtf8 bytes → ⊥) × Q e) → result_ok r ≡ None → WritesNone bytes
-  no_line (Ok s) h e = absurd (not_both s e)
-  no_line (Err x) h e = no_text bytes h.0
-
-  pub same_bytes : (r : Result (Bor (List ℕ)) E) (text : Bor (List ℕ)) → MatchResult r (λ s. (s.now ≡ bytes) × IsUtf8 bytes) (λ e. (IsUtf8 bytes → ⊥) × Q e) → result_ok r ≡ Some text → bytes ≡ text.now
-  same_bytes (Ok s) text h e = let same : s ≡ text = cc in sym h.0 ∙ ap (λ t. t.now) same
-  same_bytes (Err x) text h e = absurd (not_both text (sym e))
 
 -- two lines of one form are the same
 pub same_line : (l m : Line) → Fits l → Fits m → written l ≡ written m → l ≡ m

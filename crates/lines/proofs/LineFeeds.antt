@@ -1,11 +1,15 @@
 -- No line has a line feed in its form, so a line is what stands before the first. Assumes nothing.
-use Rattle.std.proofs.Common.{ℕ, List, length, ◌≢◌, sym, ◌∙◌, subst, arith}
+use Rattle.std.proofs.Common.{ℕ, List, length, ◌≢◌, sym, ◌∙◌, subst, arith, ◌^◌, ◌<◌, decimal}
 use Rattle.lines.specs.declared.Line.{Line}
 use Rattle.lines.specs.Forms.{written, Fits, WritesNone}
 use Rattle.lines.specs.Parts.{Lacks, SplitsAt}
 use Rattle.lines.specs.Reading.{line_feed, BeginsWith, BeginsWithNone}
 use Rattle.lines.proofs.Splits.{same_split, not_lacked, lacks_outside}
 use Rattle.lines.proofs.Forms.{written_bytes}
+use Rattle.lines.proofs.Numbers.{decimal_lacks}
+
+pub number_lacks : (n : ℕ) → n < 2 ^ 16 → Lacks (decimal n) line_feed
+number_lacks n h = decimal_lacks n line_feed h (λ l u. omega arith)
 
 form_lacks : (l : Line) → Fits l → Lacks (written l) line_feed
 form_lacks l f = lacks_outside 44 122 line_feed (written l) (written_bytes l f) (λ p. omega arith)

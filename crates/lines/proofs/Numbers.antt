@@ -1,22 +1,33 @@
 -- A number in decimal: its bytes, and what the tests of `parse_number` say of them. Assumes nothing.
-use Rattle.std.proofs.Common.{◌≡◌, ℕ, ◌^◌, ◌<◌, ◌≤◌, List, length, get_or, Ok, Err, decimal, Result, sym, ap, ◌∙◌, subst, ⊎_elim, arith, MatchOption, Option}
-use Rattle.std.specs.Result.{result_ok}
-use Rattle.std.specs.Str.Parse.{digits_value, AllDigits, ParsesUnsigned}
-use Rattle.std.specs.Int.{IsInRange}
+use Rattle.std.proofs.Common.{◌≡◌, ℕ, ◌+◌, ◌-◌, ◌*◌, ◌^◌, ◌<◌, ◌≤◌, List, length, get_or, take, Ok, Err, decimal, Result, sym, ap, ◌∙◌, subst, ⊎_elim, arith, MatchOption}
 use Rattle.std.specs.List.{All}
-use Rattle.std.proofs.lemmas.Str.Parse.{IsNumeralModel, numerals_by_value, tells_digits, tells_by_index, parse_plain}
-use Rattle.std.proofs.lemmas.Fmt.{parse-decimal, length-decimal-le, decimal-digits_value, digits_decimal, decimal_nonempty, first_decimal, decimal_digit, decimal_injective}
+use Rattle.std.proofs.lemmas.Str.Parse.{tells_by_index}
 use Rattle.std.proofs.lemmas.List.Elements.{All-from_get_or}
+use Rattle.std.specs.Result.{OkIff, result_ok}
+use Rattle.std.specs.Str.Parse.{digits_value, AllDigits}
+use Rattle.std.specs.Int.{IsInRange}
+use Rattle.std.specs.Char.{digit_value as digitValue}
+use Rattle.std.proofs.lemmas.Str.Parse.{IsNumeralModel, numerals_by_value, tells_digits, digit_at, digits_value_short, not_in_digits}
+use Rattle.std.proofs.lemmas.Fmt.{decimal-digits_value, digits_decimal, digits_value-decimal, decimal_nonempty, length-decimal-le, first_decimal, decimal_digit, decimal_injective}
+use Rattle.std.proofs.lemmas.Int.Digits.{digits_value_more, digits_more}
+use Rattle.std.proofs.lemmas.Str.{digit_value_digit}
 use Rattle.std.proofs.lemmas.Bool.{cases_lt}
-use Rattle.lines.specs.Parts.{WritesNumber}
+use Rattle.lines.specs.Parts.{Lacks, WritesNumber}
+
+base_ten : IsNumeralModel (AllDigits 10) (digits_value 10)
+base_ten = numerals_by_value (AllDigits 10) tells_digits
 
 -- a number is written with digits alone
 pub decimal_digits : (n : ℕ) → n < 2 ^ 16 → All (IsInRange 48 57) (decimal n)
 decimal_digits n h = All-from_get_or (IsInRange 48 57) (decimal n) 0 (digits_decimal (numerals_by_value _ tells_by_index) n (omega arith))
 
--- in five digits at most
-pub five_digits : (n : ℕ) → n < 2 ^ 16 → length (decimal n) ≤ 5
-five_digits n h = length-decimal-le 5 n (omega arith) (omega arith) (omega arith)
+-- so a number lacks every other byte
+pub decimal_lacks : (n b : ℕ) → n < 2 ^ 16 → (48 ≤ b → b ≤ 57 → ⊥) → Lacks (decimal n) b
+decimal_lacks n b h o = not_in_digits base_ten (decimal n) b (digits_decimal base_ten n (omega arith)) (λ p. o p.0 p.1)
+
+-- a number has five digits at most
+pub decimal_short : (n : ℕ) → n < 2 ^ 16 → length (decimal n) ≤ 5
+decimal_short n h = length-decimal-le 5 n (omega arith) (omega arith) (omega arith)
 
 pub same_number : (m n : ℕ) → m < 2 ^ 16 → n < 2 ^ 16 → decimal m ≡ decimal n → m ≡ n
 same_number m n h l e = decimal_injective m n (omega arith) (omega arith) e
@@ -25,10 +36,11 @@ module _ (s : List ℕ) (n : ℕ) (w : WritesNumber s n) where
   fits_64 : n < 2 ^ 64
   fits_64 = omega (arith, w.fits)
 
-  pub not_signed : get_or s 0 0 ≡ 43 → ⊥
-  not_signed q =
-      let d = decimal_digits n w.fits 0 0 (decimal_nonempty n fits_64) in
-      omega (arith, d.0, ap (λ t. get_or t 0 0) w.text)
+  pub not_empty : length s ≡ 0 → ⊥
+  not_empty e = omega (arith, decimal_nonempty n fits_64, ap length w.text)
+
+  pub not_long : 5 < length s → ⊥
+  not_long h = omega (arith, length-decimal-le 5 n (omega arith) (omega (arith, w.fits)) fits_64, ap length w.text)
 
   pub not_padded : (1 < length s) × (get_or s 0 0 ≡ 48) → ⊥
   not_padded q =
@@ -38,8 +50,27 @@ module _ (s : List ℕ) (n : ℕ) (w : WritesNumber s n) where
       (λ p. let e : n ≡ 0 = omega arith in omega (arith, ap length (w.text ∙ ap decimal e ∙ decimal_digit 0 (omega arith))))
       (cases_lt 0 n)
 
-base_ten : IsNumeralModel (AllDigits 10) (digits_value 10)
-base_ten = numerals_by_value (AllDigits 10) tells_digits
+  digits : AllDigits 10 s
+  digits = subst (AllDigits 10) (sym w.text) (digits_decimal base_ten n fits_64)
+
+  pub all_digits : (i : ℕ) → i < length s → IsInRange 48 57 (get_or s i 0)
+  all_digits i h = digit_at s i digits h
+
+  has_value : digits_value 10 s ≡ n
+  has_value = ap (digits_value 10) w.text ∙ digits_value-decimal base_ten n fits_64
+
+-- what the loop keeps, at the next digit
+digit_value : (c : ℕ) → IsInRange 48 57 c → digitValue c ≡ c - 48
+digit_value c h = let e = digit_value_digit c h in omega arith
+
+pub value_step : (s : List ℕ) (i n : ℕ) → i < length s → n ≡ digits_value 10 (take i s) → IsInRange 48 57 (get_or s i 0) → n * 10 + (get_or s i 0 - 48) ≡ digits_value 10 (take (i + 1) s)
+value_step s i n h e d = let v = digits_value_more 10 s i h in let x = digit_value (get_or s i 0) d in omega arith
+
+pub digits_step : (s : List ℕ) (i : ℕ) → i < length s → AllDigits 10 (take i s) → IsInRange 48 57 (get_or s i 0) → AllDigits 10 (take (i + 1) s)
+digits_step s i h e d = let x = digit_value (get_or s i 0) d in digits_more 10 s i h e (omega arith)
+
+pub five_digits : (s : List ℕ) → AllDigits 10 s → length s ≤ 5 → digits_value 10 s < 100000
+five_digits s d h = digits_value_short base_ten s 5 d h
 
 -- digits without a leading zero write their value
 writes_value : (s : List ℕ) → AllDigits 10 s → 0 < length s → ((1 < length s) × (get_or s 0 0 ≡ 48) → ⊥) → digits_value 10 s < 2 ^ 16 → WritesNumber s (digits_value 10 s)
@@ -47,14 +78,8 @@ writes_value s d some lead fits =
     let alone : get_or s 0 0 ≡ 48 → length s ≡ 1 = λ z. ⊎_elim (λ p. absurd (lead (p, z))) (λ p. omega arith) (cases_lt 1 (length s)) in
     record { fits = fits; text = sym (decimal-digits_value base_ten s d some alone (omega arith)) }
 
--- what `parse` answers of a text with no sign and no leading zero
-module _ {E : Type 0} (s : List ℕ) (plus : get_or s 0 0 ≡ 43 → ⊥) (lead : (1 < length s) × (get_or s 0 0 ≡ 48) → ⊥) where
-  pub parsed : (r : Result ℕ E) → ParsesUnsigned 16 10 s r → MatchOption (result_ok r) ((n : ℕ) → WritesNumber s n → ⊥) (WritesNumber s)
-  parsed (Ok x) h =
-      let p = parse_plain base_ten {E = E} 16 s (Ok x) h plus in
-      subst (WritesNumber s) (sym p.1) (writes_value s p.0.0 p.0.1 lead p.0.2)
-  parsed (Err e) h = λ n w. let same = parse-decimal 16 n s (Err e) w.fits (omega (arith, w.fits)) w.text h in cc
-
-  -- and so of every answer that equals it
-  pub as_parsed : (r : Result ℕ E) → ParsesUnsigned 16 10 s r → (a : Option ℕ) → a ≡ result_ok r → MatchOption a ((n : ℕ) → WritesNumber s n → ⊥) (WritesNumber s)
-  as_parsed r h a e = rw e (parsed r h)
+-- what `parse_number` answers of digits of the value n: n, where 16 bits hold it
+module _ {E : Type 0} (s : List ℕ) (n : ℕ) (v : n ≡ digits_value 10 s) (d : AllDigits 10 s) (some : 0 < length s) (lead : (1 < length s) × (get_or s 0 0 ≡ 48) → ⊥) where
+  pub in_16_bits : (r : Result ℕ E) → OkIff r (n < 2 ^ 16) n → MatchOption (result_ok r) ((m : ℕ) → WritesNumber s m → ⊥) (WritesNumber s)
+  in_16_bits (Ok x) h = subst (WritesNumber s) (sym (h.1 ∙ v)) (writes_value s d some lead (omega (arith, h.0)))
+  in_16_bits (Err e) h = λ m w. h (omega (arith, has_value s m w, w.fits))

@@ -1,9 +1,9 @@
 -- Bytes split at a byte, which they do in one way only. Assumes nothing.
-use Rattle.std.proofs.Common.{◌≡◌, ℕ, zero, suc, ◌<◌, Bool, true, not, ◌&&◌, eqb, None, Some, Option, List, [], ◌∷◌, ◌++◌, refl, subst, arith, Bor, MatchOption}
+use Rattle.std.proofs.Common.{◌≡◌, ℕ, zero, suc, Bool, true, not, ◌&&◌, eqb, List, [], ◌∷◌, ◌++◌, refl, subst, arith, ◌<◌, ◌+◌, take, drop, length, sym, ap, ◌∙◌, ◌≢◌, slice_index}
 use Rattle.std.specs.Int.{IsInRange}
 use Rattle.std.specs.List.{All}
+use Rattle.std.proofs.lemmas.List.{take-append-drop, drop_more, get_or-take, length-take-le}
 use Rattle.std.proofs.lemmas.Bool.{both_ways, not-true, and_parts, eq-eqb}
-use Rattle.std.proofs.lemmas.Str.Pattern.{IsSplitOnceResult, split_parts}
 use Rattle.lines.specs.Parts.{Lacks, SplitsAt}
 
 -- two ways to split at b are the same
@@ -36,6 +36,19 @@ same_front b (x ∷ f) (y ∷ f') r r' p q e =
     let m = same_front b f f' r r' (λ k l. p (suc k) (omega arith)) q tail in
     cc
 
+-- i is the first place of b in bytes
+pub record FirstPlace (bytes : List ℕ) (b i : ℕ) : Type 0 where
+  pub within : i < length bytes
+  pub here : slice_index bytes i ≡ b
+  pub before : (k : ℕ) → k < i → slice_index bytes k ≢ b
+
+-- bytes split at the first place of b
+pub split_at_place : (bytes : List ℕ) (b i : ℕ) → FirstPlace bytes b i → SplitsAt bytes b (take i bytes) (drop (i + 1) bytes)
+split_at_place bytes b i p = record {
+  whole = sym (take-append-drop i bytes) ∙ ap (λ t. take i bytes ++ t) (drop_more bytes i 0 p.within ∙ ap (λ x. x ∷ drop (i + 1) bytes) p.here);
+  first = λ k l q. let m = length-take-le i bytes (omega (arith, p.within)) in p.before k (omega arith) (sym (get_or-take i bytes k 0 (omega arith)) ∙ q);
+}
+
 -- bytes lack b if each of their parts does
 pub lacks_cons : (b x : ℕ) (xs : List ℕ) → (x ≡ b → ⊥) → Lacks xs b → Lacks (x ∷ xs) b
 lacks_cons b x xs n p zero l q = n q
@@ -58,8 +71,3 @@ lacks_by_test b (x ∷ xs) e (suc k) l q = lacks_by_test b xs (and_parts _ _ e).
 -- bytes in a range lack each byte outside it
 pub lacks_outside : (low high b : ℕ) (bs : List ℕ) → All (IsInRange low high) bs → (IsInRange low high b → ⊥) → Lacks bs b
 lacks_outside low high b bs w o k l q = o (subst (IsInRange low high) q (w k 0 l))
-
--- what `split_once` answers at an ASCII character
-pub split_once_parts : (b : ℕ) (bs : List ℕ) (r : Option (Bor (List ℕ) × Bor (List ℕ))) → IsSplitOnceResult b bs r → b < 128 → MatchOption r (Lacks bs b) (λ p. SplitsAt bs b p.0.now p.1.now)
-split_once_parts b bs None h l = split_parts b bs None h l
-split_once_parts b bs (Some p) h l = let parts = split_parts b bs (Some p) h l in record { whole = parts.0; first = parts.1 }

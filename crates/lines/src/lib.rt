@@ -35,56 +35,74 @@ pub fn parse_line(bytes: &[u8]) -> Option<Line>
     if bytes.len() > LONGEST {
         return None;
     }
-    let (word, value) = str::from_utf8(bytes).ok()?.split_once('=')?;
+    let (word, value) = split_at_first(bytes, b'=')?;
     parse_value(word, value)
 }
 
-// The line that has `word` before the sign `=` and `value` after it.
-fn parse_value(word: &str, value: &str) -> Option<Line>
+// The line that has `word` before the sign `=` and `value` after it. (Bytes throughout: text would first be checked to be
+// text, and searched for a character, which takes longer than all that is done here.)
+fn parse_value(word: &[u8], value: &[u8]) -> Option<Line>
     ensures { MatchOption result (WritesNone (form word.now value.now)) (Writes (form word.now value.now)) }
 {
-    match word {
-        "library" => parse_number(value).map(Line::Library),
-        "papers" => parse_number(value).map(Line::Papers),
-        "arc" => parse_pair(value).map(|(u, v)| Line::Arc(u, v)),
-        "end" => parse_number(value).map(Line::End),
-        "ask" => parse_pair(value).map(|(s, t)| Line::Ask(s, t)),
-        "trace" => parse_pair(value).map(|(s, t)| Line::Trace(s, t)),
-        "under" => parse_number(value).map(Line::Under),
-        _ => None,
+    if word == b"library".as_slice() {
+        parse_number(value).map(Line::Library)
+    } else if word == b"papers".as_slice() {
+        parse_number(value).map(Line::Papers)
+    } else if word == b"arc".as_slice() {
+        parse_pair(value).map(|(u, v)| Line::Arc(u, v))
+    } else if word == b"end".as_slice() {
+        parse_number(value).map(Line::End)
+    } else if word == b"ask".as_slice() {
+        parse_pair(value).map(|(s, t)| Line::Ask(s, t))
+    } else if word == b"trace".as_slice() {
+        parse_pair(value).map(|(s, t)| Line::Trace(s, t))
+    } else if word == b"under".as_slice() {
+        parse_number(value).map(Line::Under)
+    } else {
+        None
     }
 }
 
 // The two numbers of `m,n`.
-fn parse_pair(text: &str) -> Option<(u16, u16)>
-    ensures { MatchOption result ((m n : ℕ) → WritesPair text.now m n → ⊥) (λ p. WritesPair text.now p.0 p.1) }
+fn parse_pair(bytes: &[u8]) -> Option<(u16, u16)>
+    ensures { MatchOption result ((m n : ℕ) → WritesPair bytes.now m n → ⊥) (λ p. WritesPair bytes.now p.0 p.1) }
 {
-    let (m, n) = text.split_once(',')?;
+    let (m, n) = split_at_first(bytes, b',')?;
     Some((parse_number(m)?, parse_number(n)?))
 }
 
-// The number that `text` is in decimal, without a sign or leading zeros, both of which `parse` would take.
-fn parse_number(text: &str) -> Option<u16>
-    ensures { MatchOption result ((n : ℕ) → WritesNumber text.now n → ⊥) (WritesNumber text.now) }
+// The number that `bytes` are in decimal, without leading zeros.
+fn parse_number(bytes: &[u8]) -> Option<u16>
+    ensures { MatchOption result ((n : ℕ) → WritesNumber bytes.now n → ⊥) (WritesNumber bytes.now) }
 {
-    if text.starts_with('+') || has_leading_zero(text) {
+    if bytes.is_empty() || bytes.len() > 5 {
         return None;
     }
-    text.parse().ok()
+    if has_leading_zero(bytes) {
+        return None;
+    }
+    let mut n: u32 = 0;
+    for digit in bytes {
+        if !digit.is_ascii_digit() {
+            return None;
+        }
+        n = n * 10 + u32::from(*digit - b'0');
+    }
+    u16::try_from(n).ok()
 }
 
-// Whether `text` begins with a zero and goes on after it.
-fn has_leading_zero(text: &str) -> bool
-    ensures { IsTrue result ↔ ((1 < length text.now) × (slice_index text.now 0 ≡ 48)) }
+// Whether `bytes` begin with a zero and go on after it.
+fn has_leading_zero(bytes: &[u8]) -> bool
+    ensures { IsTrue result ↔ ((1 < length bytes.now) × (slice_index bytes.now 0 ≡ 48)) }
 {
-    text.len() > 1 && text.starts_with('0')
+    bytes.len() > 1 && bytes[0] == b'0'
 }
 
-// What stands before and after the first line feed in `bytes`. (`split_once` is for text, which an input may not be.)
-fn split_line(bytes: &[u8]) -> Option<(&[u8], &[u8])>
-    ensures { MatchOption result (Lacks bytes.now line_feed) (λ p. SplitsAt bytes.now line_feed p.0.now p.1.now) }
+// What stands before and after the first `separator` in `bytes`. (`split_once` is for text, which an input may not be.)
+fn split_at_first(bytes: &[u8], separator: u8) -> Option<(&[u8], &[u8])>
+    ensures { MatchOption result (Lacks bytes.now separator) (λ p. SplitsAt bytes.now separator p.0.now p.1.now) }
 {
-    let i = bytes.iter().position(|b| *b == b'\n')?;
+    let i = bytes.iter().position(|b| *b == separator)?;
     Some((&bytes[..i], &bytes[i + 1..]))
 }
 
@@ -123,7 +141,7 @@ impl<'a> Reader<'a> {
         if self.rest.is_empty() {
             return Ok(None);
         }
-        let (bytes, rest) = split_line(self.rest).ok_or(NoForm)?;
+        let (bytes, rest) = split_at_first(self.rest, b'\n').ok_or(NoForm)?;
         let line = parse_line(bytes).ok_or(NoForm)?;
         self.rest = rest;
         Ok(Some(line))

@@ -1,7 +1,7 @@
 -- What holds as a trace is followed and written. Assumes nothing.
 use Rattle.std.proofs.Common.{◌≡◌, ℕ, ◌+◌, ◌<◌, ◌≤◌, Bool, true, false, List, [], ◌∷◌, ◌++◌, length, get_or, take, drop, Some, None, Ok, sym, refl, ap, ◌∙◌, subst, append_assoc, length-append, arith}
 use mathlib.Core.Logic.{∥∥₁_map}
-use Rattle.std.proofs.lemmas.List.{take_at, drop_at}
+use Rattle.std.proofs.lemmas.List.{take_at, drop_at, length-take-le}
 use Rattle.std.proofs.lemmas.Bool.{both_ways}
 use Rattle.std.proofs.lemmas.Bool.Decides.{nat_tests}
 use Rattle.graph.specs.Model.{Model, Proper, reversed}
@@ -110,3 +110,14 @@ module _ (m : Model) (proper : Proper m) (s t : ℕ) (before : List ℕ) (bs : s
         );
         unreached = λ n. (λ z. absurd (omega arith), λ f. absurd (f (trace_reaches m t r)));
       }
+
+-- a copy to the start of a list
+module _ (out path part : List ℕ) (count : ℕ) (e : part ≡ take count path) (l : count ≤ length path) where
+  pub part_length : length part ≡ count
+  part_length = ap length e ∙ length-take-le count path l
+
+  pub copied : take count (part ++ drop count out) ≡ take count path
+  copied = take_at part (drop count out) count part_length ∙ e
+
+  pub left : drop count (part ++ drop count out) ≡ drop count out
+  left = drop_at part (drop count out) count part_length

@@ -1,5 +1,5 @@
 -- What holds as the vertices that s reaches are marked. Assumes nothing.
-use Rattle.std.proofs.Common.{◌++◌, ◌≡◌, ℕ, ◌+◌, ◌<◌, ◌≤◌, Bool, true, false, cond, ◌⊎◌, List, [], ◌∷◌, length, get_or, take, set, replicate, Some, None, sym, ap, ◌∙◌, subst, inl, inr, ⊎_elim, arith, get_or-set_other, get_or-set_same, length-append}
+use Rattle.std.proofs.Common.{◌++◌, ◌≡◌, ℕ, zero, suc, ◌+◌, ◌<◌, ◌≤◌, Bool, true, false, cond, ◌⊎◌, List, [], ◌∷◌, length, get_or, take, set, replicate, Some, None, sym, refl, ap, ◌∙◌, subst, inl, inr, ⊎_elim, arith, get_or-set_other, get_or-set_same, length-append}
 use mathlib.Core.Bool.{Bool-set}
 use mathlib.Core.Logic.{∥∥₁_elim}
 use Rattle.std.proofs.lemmas.Bool.{cases_eq, cases_lt, both_ways}
@@ -24,6 +24,16 @@ ones_set marks w l e = grind (arith, sum_by-set (λ b. cond b 1 0) marks w true 
 pub ones_front : (n w : ℕ) (marks : List Bool) → w < n → w < length marks → get_or marks w false ≡ false → ones (take n (set marks w true)) ≡ ones (take n marks) + 1
 ones_front n w marks h l e =
     ap ones (take-set-lt n marks w true h) ∙ ones_set (take n marks) w (omega (arith, length-take n marks)) (get_or-take n marks w false h ∙ e)
+
+-- of the first n no more than n are set
+pub ones_le : (n : ℕ) (xs : List Bool) → ones (take n xs) ≤ n
+ones_le n xs = omega (arith, count_by-le-length (λ b. b) (take n xs), length-take n xs)
+
+-- and none where no mark is
+pub ones_none : (n k : ℕ) → ones (take n (replicate k false)) ≡ 0
+ones_none zero k = refl
+ones_none (suc n) zero = refl
+ones_none (suc n) (suc k) = ones_none n k
 
 pub no_mark : (n k : ℕ) → get_or (replicate n false) k false ≡ false
 no_mark n k = ⊎_elim (get_or-replicate n k false false) (λ (l : n ≤ k). get_or_past (replicate n false) k false (simp length-replicate l)) (cases_lt k n)

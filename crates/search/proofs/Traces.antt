@@ -52,9 +52,23 @@ pub trace_short : (g : Model) (s t : ℕ) (p : List ℕ) → Proper g → s < g.
 trace_short g s t p k b r = pigeonhole g.order p (trace_distinct g t r) (trace_below g t k r b)
 
 -- the vertices of a path
-abbrev vertices : {g : Model} {a b : ℕ} → Path g a b → List ℕ
+abbrev pub vertices : {g : Model} {a b : ℕ} → Path g a b → List ℕ
 vertices (stay {u}) = u ∷ []
 vertices (walk {u} e p) = u ∷ vertices p
+
+-- how many arcs a path has: one fewer than vertices
+abbrev pub arcs : {g : Model} {a b : ℕ} → Path g a b → ℕ
+arcs stay = 0
+arcs (walk e p) = suc (arcs p)
+
+pub length_vertices : {g : Model} {a b : ℕ} (p : Path g a b) → length (vertices p) ≡ suc (arcs p)
+length_vertices stay = refl
+length_vertices (walk e p) = ap suc (length_vertices p)
+
+-- a path with no arc joins no two different vertices
+pub none : {g : Model} {x y : ℕ} (p : Path g x y) → (x ≡ y → ⊥) → arcs p ≤ 0 → ⊥
+none stay f l = f refl
+none (walk e p) f l = omega arith
 
 -- a path comes to each of its vertices
 comes : (g : Model) (x : ℕ) {a b : ℕ} (p : Path g a b) → has x (vertices p) ≡ true → Path g a x
@@ -68,6 +82,10 @@ path_distinct g n (walk {u} {v} e p) = (false_from_ne_true (has u (vertices p)) 
 vertices_below : (g : Model) → Proper g → {a b : ℕ} (p : Path g a b) → a < g.order → AllByRecursion (λ x. x < g.order) (vertices p)
 vertices_below g k stay b = (b, tt)
 vertices_below g k (walk {u} {v} e p) b = (b, vertices_below g k p (k.within u v e).1)
+
+-- without a cycle a path has less arcs than the graph has vertices
+pub path_short : (g : Model) → Proper g → (Cycle g → ⊥) → {a b : ℕ} (p : Path g a b) → a < g.order → arcs p < g.order
+path_short g k n p b = omega (arith, length_vertices p, pigeonhole g.order (vertices p) (path_distinct g n p) (vertices_below g k p b))
 
 -- the lowest number below n with P, or none
 lowest_below : (P : ℕ → Type 0) → ((v : ℕ) → P v ⊎ (P v → ⊥)) → (n : ℕ) →
