@@ -125,6 +125,23 @@ module _ (m : Model) (proper : Proper m) (tells : ℕ → Option Decision) (s t 
     start = i.start;
   }
 
+  -- the same where that head was put, or does not reach t, or comes again
+  sure_passes_fine : (w : ℕ) (rest waiting put opened : List ℕ) → Sure m s t (at (w ∷ rest)) waiting put opened →
+      Fine m t (at rest) put w → Sure m s t (at rest) waiting put opened
+  sure_passes_fine w rest waiting put opened i here = record {
+    reached = i.reached;
+    looks = i.looks.1;
+    closed = λ u x h a np nl r. i.closed u x h a np
+        (λ j. ⊎_elim (λ (q : x ≡ w). denied x np nl r (subst (Fine m t (at rest) put) (sym q) here)) nl (entry x w rest j)) r;
+    apart = i.apart;
+    start = i.start;
+  }
+    where
+      denied : (x : ℕ) → (has x put ≡ true → ⊥) → (has x rest ≡ true → ⊥) → Reaches m x t → Fine m t (at rest) put x → ⊥
+      denied x np nl r (was_put j) = np j
+      denied x np nl r (leads_off f) = f r
+      denied x np nl r (is_left j) = nl j
+
   sure_puts : {w : ℕ} {rest waiting put opened : List ℕ} → Sure m s t (at (w ∷ rest)) waiting put opened →
       (w ≡ t → ⊥) → Sure m s t (at rest) (w ∷ waiting) (w ∷ put) opened
   sure_puts {w} {rest} i ne = record {

@@ -1,5 +1,5 @@
 -- What a scan of a table of arcs keeps. Assumes nothing.
-use Rattle.std.proofs.Common.{◌≡◌, ℕ, ◌+◌, ◌<◌, ◌≤◌, Bool, true, false, cond, not, ◌&&◌, ◌||◌, eqb, ltb, leb, List, [], ◌∷◌, ◌++◌, length, get_or, map, take, Some, None, Option, refl, sym, ap, ◌∙◌, subst, arith}
+use Rattle.std.proofs.Common.{◌≡◌, ℕ, ◌+◌, ◌<◌, ◌≤◌, Bool, true, false, cond, not, ◌&&◌, ◌||◌, eqb, ltb, leb, List, [], ◌∷◌, ◌++◌, length, get_or, map, take, Some, None, Option, refl, sym, ap, ◌∙◌, subst, arith, min}
 use Rattle.std.proofs.lemmas.Bool.Decides.{nat_tests}
 use Rattle.std.proofs.lemmas.List.{map-id, get_or-take, length-take}
 use Rattle.std.proofs.lemmas.List.Folds.{list_any-append, list_any_more, list_any_at}
@@ -36,6 +36,10 @@ least_start from u n = grind (arith, nat_tests, has_any [] u)
 abbrev pub after_entry : ℕ → Option ℕ → ℕ → ℕ
 after_entry from None best = best
 after_entry from (Some v) best = nearer_to from v best
+
+-- which is the lesser of the best and of v, n standing for a v below `from`
+pub nearer_min : (from v n best : ℕ) → best ≤ n → min best (cond (leb from v) v n) ≡ nearer_to from v best
+nearer_min from v n best h = grind (arith, nat_tests)
 
 -- one step of a scan for the heads of u's arcs
 pub least_step : (T : List Arc) (i : ℕ) (d : Arc) (from u n best : ℕ) → i < length T → Least (take i T) from u n best →

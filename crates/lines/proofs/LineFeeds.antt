@@ -1,15 +1,24 @@
 -- No line has a line feed in its form, so a line is what stands before the first. Assumes nothing.
-use Rattle.std.proofs.Common.{ℕ, List, length, ◌≢◌, sym, ◌∙◌, subst, arith, ◌^◌, ◌<◌, decimal}
+use Rattle.std.proofs.Common.{ℕ, List, length, ◌≢◌, sym, ◌∙◌, subst, arith, ◌^◌, ◌<◌, decimal, ◌≡◌, true, ◌++◌}
 use Rattle.lines.specs.declared.Line.{Line}
-use Rattle.lines.specs.Forms.{written, Fits, WritesNone}
+use Rattle.lines.specs.Forms.{written, Fits, WritesNone, comma, decimal_pair}
 use Rattle.lines.specs.Parts.{Lacks, SplitsAt}
 use Rattle.lines.specs.Reading.{line_feed, BeginsWith, BeginsWithNone}
-use Rattle.lines.proofs.Splits.{same_split, not_lacked, lacks_outside}
+use Rattle.lines.proofs.Splits.{same_split, not_lacked, lacks_outside, lacks_cons, lacks_append, lacking, lacks_by_test}
 use Rattle.lines.proofs.Forms.{written_bytes}
 use Rattle.lines.proofs.Numbers.{decimal_lacks}
 
 pub number_lacks : (n : ℕ) → n < 2 ^ 16 → Lacks (decimal n) line_feed
 number_lacks n h = decimal_lacks n line_feed h (λ l u. omega arith)
+
+-- a word that lacks the line feed lacks it with a number behind it, and with two
+pub one_number : (word : List ℕ) → lacking line_feed word ≡ true → (n : ℕ) → n < 2 ^ 16 → Lacks (word ++ decimal n) line_feed
+one_number word e n h = lacks_append line_feed word (decimal n) (lacks_by_test line_feed word e) (number_lacks n h)
+
+pub two_numbers : (word : List ℕ) → lacking line_feed word ≡ true → (m n : ℕ) → (m < 2 ^ 16) × (n < 2 ^ 16) → Lacks (word ++ decimal_pair m n) line_feed
+two_numbers word e m n h =
+    lacks_append line_feed word _ (lacks_by_test line_feed word e)
+    (lacks_append line_feed (decimal m) _ (number_lacks m h.0) (lacks_cons line_feed comma (decimal n) (λ q. omega arith) (number_lacks n h.1)))
 
 form_lacks : (l : Line) → Fits l → Lacks (written l) line_feed
 form_lacks l f = lacks_outside 44 122 line_feed (written l) (written_bytes l f) (λ p. omega arith)

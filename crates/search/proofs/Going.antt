@@ -111,6 +111,26 @@ module _ (m : Model) (proper : Proper m) (s t : ℕ) (before : List ℕ) (bs : s
         unreached = λ n. (λ z. absurd (omega arith), λ f. absurd (f (trace_reaches m t r)));
       }
 
+  -- the same of any slice that has the path's front, and is as it was behind it
+  pub something_in_front : (path after : List ℕ) (count : ℕ) → 0 < count → count ≤ m.order → Trace m t s (take count path) →
+      take count after ≡ take count path → drop count after ≡ drop count before →
+      record { answer : TraceAnswer m s t before after (Ok count); unreached : (Cycle m → ⊥) → ZeroUnlessReaches m s t (Ok count) }
+  something_in_front path after count some few r same rest =
+      let r' = subst (λ x. Trace m t s x) (sym same) r in
+      record {
+        answer = (
+          neither_refused m.order s t (length before) bs bt room,
+          record {
+            found = λ _. r';
+            none = λ e. absurd (omega arith);
+            few = few;
+            below = trace_below m t proper r' bs;
+            rest = rest;
+          },
+        );
+        unreached = λ n. (λ e. absurd (omega arith), λ f. absurd (f (trace_reaches m t r)));
+      }
+
 -- a copy to the start of a list
 module _ (out path part : List ℕ) (count : ℕ) (e : part ≡ take count path) (l : count ≤ length path) where
   pub part_length : length part ≡ count

@@ -56,6 +56,33 @@ pub record Holds (m : Model) (s : ℕ) (late : ℕ → ℕ → Type 0) (waiting 
   pub sound : (x : ℕ) → get_or marks x false ≡ true → Path m s x
   pub closed : (x w : ℕ) → get_or marks x false ≡ true → m.arc x w ≡ true → (Contains waiting x → ⊥) → (late x w → ⊥) → get_or marks w false ≡ true
 
+-- some mark is set where any is counted
+some_mark : (n : ℕ) (marks : List Bool) → 0 < ones (take n marks) → (k : ℕ) × (k < n) × (get_or marks k false ≡ true)
+some_mark zero marks h = absurd (omega arith)
+some_mark (suc n) [] h = absurd (omega arith)
+some_mark (suc n) (true ∷ marks) h = (0, omega arith, refl)
+some_mark (suc n) (false ∷ marks) h = let found = some_mark n marks h in (suc found.0, omega (arith, found.1), found.2)
+
+-- a path that has one end among the vertices has both there
+path_below : {m : Model} → Proper m → {a b : ℕ} → Path m a b → a < m.order → b < m.order
+path_below k stay l = l
+path_below k (walk {u} {v} e p) l = path_below k p (k.within u v e).1
+
+starts_below : {m : Model} → Proper m → {a b : ℕ} → Path m a b → b < m.order → a < m.order
+starts_below k stay l = l
+starts_below k (walk {u} {v} e p) l = (k.within u v e).0
+
+module _ {m : Model} {s : ℕ} {late : ℕ → ℕ → Type 0} {waiting : List ℕ} {marks : List Bool} (h : Holds m s late waiting marks) where
+  -- no more wait than there are places
+  pub tight : length waiting ≤ 512
+  tight = omega (arith, h.room, ones_le m.order marks, h.proper.small)
+
+  -- each that waits is a vertex
+  pub stacked_below : (x : ℕ) → Contains waiting x → x < m.order
+  stacked_below x i =
+      let found = some_mark m.order marks (omega (arith, h.room, i.1)) in
+      path_below h.proper (h.stacked x i) (starts_below h.proper (h.sound found.0 found.2) found.1)
+
 -- the same, where other arcs are yet to be looked at
 turned : {m : Model} {s : ℕ} {late : ℕ → ℕ → Type 0} (late' : ℕ → ℕ → Type 0) {waiting : List ℕ} {marks : List Bool} → Holds m s late waiting marks →
     ((x w : ℕ) → get_or marks x false ≡ true → m.arc x w ≡ true → (Contains waiting x → ⊥) → (late' x w → ⊥) → get_or marks w false ≡ true) →
