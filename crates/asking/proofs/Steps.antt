@@ -4,6 +4,7 @@ use Rattle.std.proofs.lemmas.Bool.{cond_both, cases_eq, eq-eqb, ne_eqb}
 use Rattle.std.proofs.lemmas.List.{take_more_set, length-replicate, length-set, reverse-append}
 use Rattle.std.specs.List.{AllByRecursion}
 use Rattle.graph.specs.Model.{Model, Proper, NextSuccessor, sum_below}
+use Rattle.graph.proofs.Bits.{sum_full}
 use Rattle.graph.proofs.Counts.{sum_max, sum_one}
 use Rattle.labels.specs.declared.decision.Verdict.{Verdict}
 use Rattle.labels.specs.declared.decision.Verdict.TheVariants.{Yes, No}
@@ -61,11 +62,8 @@ set_marks n marks = sum_below (λ w. cond (get_or marks w false) 1 0) n
 
 -- no more than n are
 pub set_marks_le : (n : ℕ) (marks : List Bool) → set_marks n marks ≤ n
-unfolding sum_below
-set_marks_le zero marks = omega arith
-set_marks_le (suc n) marks =
-    let one : cond (get_or marks n false) 1 0 ≤ 1 = cond_both (get_or marks n false) 1 0 (λ x. x ≤ 1) (λ _. omega arith) (λ _. omega arith) in
-    omega (arith, set_marks_le n marks)
+set_marks_le n marks =
+    sum_full (λ w. cond (get_or marks w false) 1 0) n (λ k. cond_both (get_or marks k false) 1 0 (λ x. x ≤ 1) (λ _. omega arith) (λ _. omega arith))
 
 -- one more, where there was no mark
 pub one_mark_more : (n w : ℕ) (marks : List Bool) → w < n → w < length marks → get_or marks w false ≡ false → set_marks n (set marks w true) ≡ set_marks n marks + 1

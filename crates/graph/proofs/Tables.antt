@@ -23,31 +23,6 @@ pub has_at : (es : List Arc) (i m : ℕ) (d : Arc) (u v : ℕ) → i < m → i <
 has_at es i m d u v lm l a b =
     sym (has_any (take m es) u v) ∙ list_any_at (is_arc u v) (take m es) i d (omega (arith, length-take m es)) (grind (arith, nat_tests, get_or-take m es i d lm))
 
--- the least place so far, below n, not below from and other than u, that an entry joins u to; n where there is none
-pub record Least (es : List Arc) (from u n best : ℕ) : Type 0 where
-  pub top : best ≤ n
-  pub hit : best < n → (has es u best ≡ true) × (best ≡ u → ⊥) × (from ≤ best)
-  pub none : (w : ℕ) → from ≤ w → w < best → (w ≡ u → ⊥) → has es u w ≡ true → ⊥
-
-pub least_start : (from u n : ℕ) → Least [] from u n n
-least_start from u n = grind (arith, nat_tests, has_any [] u)
-
--- the best so far after an entry that gives the vertex o, or none
-abbrev pub after_entry : ℕ → Option ℕ → ℕ → ℕ
-after_entry from None best = best
-after_entry from (Some v) best = nearer_to from v best
-
--- which is the lesser of the best and of v, n standing for a v below `from`
-pub nearer_min : (from v n best : ℕ) → best ≤ n → min best (cond (leb from v) v n) ≡ nearer_to from v best
-nearer_min from v n best h = grind (arith, nat_tests)
-
--- one step of a scan for the heads of u's arcs
-pub least_step : (T : List Arc) (i : ℕ) (d : Arc) (from u n best : ℕ) → i < length T → Least (take i T) from u n best →
-    (b : ℕ) → b ≡ after_entry from (head_from u (get_or T i d)) best → Least (take (i + 1) T) from u n b
-least_step T i d from u n best lt l b is =
-    let adds = λ (w : ℕ). simp has_any at (list_any_more (is_arc u w) T i d lt) in
-    grind (arith, nat_tests, adds, l.hit, l.none)
-
 -- the least place so far, below n, not below from and other than u, at which any test p is true; n where there is none
 pub record LeastPassing (p : ℕ → Bool) (from u n best : ℕ) : Type 0 where
   pub top : best ≤ n
@@ -57,6 +32,15 @@ pub record LeastPassing (p : ℕ → Bool) (from u n best : ℕ) : Type 0 where
 -- at first nothing passes
 pub passing_start : (p : ℕ → Bool) (from u n : ℕ) → ((w : ℕ) → p w ≡ false) → LeastPassing p from u n n
 passing_start p from u n h = grind (arith, nat_tests, h)
+
+-- the best so far after an entry that gives the vertex o, or none
+abbrev pub after_entry : ℕ → Option ℕ → ℕ → ℕ
+after_entry from None best = best
+after_entry from (Some v) best = nearer_to from v best
+
+-- which is the lesser of the best and of v, n standing for a v below `from`
+pub nearer_min : (from v n best : ℕ) → best ≤ n → min best (cond (leb from v) v n) ≡ nearer_to from v best
+nearer_min from v n best h = grind (arith, nat_tests)
 
 -- the new entry lies at y, and counts if t
 module _ (p q : ℕ → Bool) (t : Bool) (y from u n best : ℕ) (adds : (w : ℕ) → q w ≡ (p w || (t && eqb y w))) (l : LeastPassing p from u n best) where
@@ -104,6 +88,17 @@ module _ (T : List Arc) (i : ℕ) (d : Arc) (from u n best : ℕ) (lt : i < leng
   tail_step l o e b is =
       subst (LeastPassing (λ w. has (take (i + 1) T) w u) from u n) (sym is)
       (passing_step (λ w. has (take i T) w u) (λ w. has (take (i + 1) T) w u) (eqb (get_or T i d).head u) (get_or T i d).tail from u n best more_tail l o e)
+
+-- the same of what entries join u to
+abbrev pub Least : List Arc → ℕ → ℕ → ℕ → ℕ → Type 0
+Least es from u n best = LeastPassing (λ w. has es u w) from u n best
+
+pub least_start : (from u n : ℕ) → Least [] from u n n
+least_start from u n = passing_start _ from u n (λ w. sym (has_any [] u w))
+
+pub least_step : (T : List Arc) (i : ℕ) (d : Arc) (from u n best : ℕ) → i < length T → Least (take i T) from u n best →
+    (b : ℕ) → b ≡ after_entry from (head_from u (get_or T i d)) best → Least (take (i + 1) T) from u n b
+least_step T i d from u n best lt l b is = head_step T i d from u n best lt l _ refl b is
 
 -- below the best of a whole scan of the first i = m entries, over n = N vertices, nothing is drawn
 module _ (T : List Arc) (i m : ℕ) (all : i ≡ m) (from u n N best : ℕ) (order : n ≡ N) where

@@ -41,27 +41,29 @@ module _ {X : Type 0} (cmp : X → X → Ordering) where
   pub sinking_from : (xs : List X) (end : ℕ) → HeapedPast cmp xs end → (d : X) → Sinking (λ m. get_or xs m d) 0 end
   sinking_from xs end h d = record { edges = λ k z b n. h k (omega arith) b d; across = λ k z b e. absurd (omega arith) }
 
-  module _ (o : IsTotalOrder cmp) where
-    turned : (x y : X) → is_lt (cmp x y) ≡ true → is_lt (cmp y x) ≡ false
-    turned = (ranks_by o (λ x. x)).one_way
+  -- what an order is asked for: of two keys one is not less, and `not less` goes on from key to key
+  pub turned : IsTotalOrder cmp → (x y : X) → is_lt (cmp x y) ≡ true → is_lt (cmp y x) ≡ false
+  turned o = (ranks_by o (λ x. x)).one_way
 
-    chained : (x y z : X) → is_lt (cmp x y) ≡ false → is_lt (cmp y z) ≡ false → is_lt (cmp x z) ≡ false
-    chained = (ranks_by o (λ x. x)).chain
+  pub chained : IsTotalOrder cmp → (x y z : X) → is_lt (cmp x y) ≡ false → is_lt (cmp y z) ≡ false → is_lt (cmp x z) ≡ false
+  chained o = (ranks_by o (λ x. x)).chain
 
+  module _ (oneway : (x y : X) → is_lt (cmp x y) ≡ true → is_lt (cmp y x) ≡ false)
+      (chain : (x y z : X) → is_lt (cmp x y) ≡ false → is_lt (cmp y z) ≡ false → is_lt (cmp x z) ≡ false) where
     -- An exchange of the keys at j and at p, above it, where the one at p is less.
     module _ (at now : ℕ → X) (p j end : ℕ) (is : p ≡ parent j) (below : 0 < j) (within : j < end)
         (swap : Swapped at now p j) (wrong : is_lt (cmp (at p) (at j)) ≡ true) where
       pub rises : Rising at j end → Rising now p end
       rises h = record {
         edges = λ k z b n.
-            let flat = turned _ _ wrong in
+            let flat = oneway _ _ wrong in
             let upper = swap.0 in
             let lower = swap.1 in
             let same = swap.2 k in
             let same_above = swap.2 (parent k) in
             let edge = h.edges k z b in
             let across = h.across k below b in
-            let link = chained (at j) (at p) (at k) flat in
+            let link = chain (at j) (at p) (at k) flat in
             grind (arith, cases_eq k j, cases_eq (parent k) p, cases_eq (parent k) j);
         across = λ k z b e.
             let lower = swap.1 in
@@ -69,14 +71,14 @@ module _ {X : Type 0} (cmp : X → X → Ordering) where
             let same_top = swap.2 (parent p) in
             let high = h.edges p z in
             let edge = h.edges k in
-            let link = chained (at (parent p)) (at p) (at k) in
+            let link = chain (at (parent p)) (at p) (at k) in
             grind (arith, cases_eq k j);
       }
 
       pub sinks : ((k : ℕ) → 0 < k → k < end → parent k ≡ p → Edge at j k) → Sinking at p end → Sinking now j end
       sinks greatest h = record {
         edges = λ k z b n.
-            let flat = turned _ _ wrong in
+            let flat = oneway _ _ wrong in
             let upper = swap.0 in
             let lower = swap.1 in
             let same = swap.2 k in
@@ -97,10 +99,10 @@ module _ {X : Type 0} (cmp : X → X → Ordering) where
         (n k : ℕ) → k < n → k < end → Edge at 0 k
     first_over at end h zero k a b = absurd (omega arith)
     first_over at end h (suc n) k a b =
-        let itself = turned (at 0) (at 0) in
+        let itself = oneway (at 0) (at 0) in
         let above = first_over at end h n (parent k) in
         let edge = h k in
-        let link = chained (at 0) (at (parent k)) (at k) in
+        let link = chain (at 0) (at (parent k)) (at k) in
         grind (arith, cases_eq k 0, cases_Bool (is_lt (cmp (at 0) (at 0))))
 
 -- § The edges of a list
@@ -216,50 +218,19 @@ module _ {X : Type 0} (cmp : X → X → Ordering) where
         ((d : X) → is_lt (cmp (get_or xs (parent j) d) (get_or xs j d)) ≡ true) →
         ((d : X) → Rising cmp (λ m. get_or xs m d) j end) → (d : X) → Rising cmp (λ m. get_or ys m d) (parent j) end
     rises_along xs ys j end below within le is wrong h d =
-        let moved = swap xs ys j end below within le is in
-        let turned : Over cmp xs j (parent j) = λ a. oneway _ _ (wrong a) in record {
-          edges = λ k z b n. each_edge xs ys j moved below k z
-              (λ e. turned)
-              (λ m e. over_over xs j (parent j) k turned (subst (λ p. Over cmp xs p k) e (λ a. (h a).edges k z b m)))
-              (λ e a. (h a).across k below b e)
-              (λ e. absurd (n e))
-              (λ m _ _ a. (h a).edges k z b m) d;
-          across = λ k z b e.
-              let high : Over cmp xs (parent (parent j)) (parent j) = λ a. (h a).edges (parent j) z (omega arith) (omega arith) in
-              let still = stayed xs ys (parent j) j moved in
-              let top = parent (parent j) in
-              let top-still = still top (omega arith) (omega arith) in
-              ⊎_elim
-              (λ s. came xs ys top top k (parent j) top-still (from_first xs ys (parent j) j moved k s) high d)
-              (λ n. came xs ys top top k k top-still (still k (omega arith) n) (over_over xs top (parent j) k high (subst (λ p. Over cmp xs p k) e (λ a. (h a).edges k (omega arith) b n))) d)
-              (cases_eq k j);
-        }
+        rises cmp oneway chain (λ m. get_or xs m d) (λ m. get_or ys m d) (parent j) j end refl below within (swap xs ys j end below within le is d) (wrong d) (h d)
 
     -- a key sinks past the greatest child's
     pub sinks_along : (xs ys : List X) (j end : ℕ) → 0 < j → j < end → end ≤ length xs → ys ≡ exchanged xs (parent j) j →
         ((d : X) → is_lt (cmp (get_or xs (parent j) d) (get_or xs j d)) ≡ true) → GreatestChild cmp xs (parent j) j end →
         ((d : X) → Sinking cmp (λ m. get_or xs m d) (parent j) end) → (d : X) → Sinking cmp (λ m. get_or ys m d) j end
     sinks_along xs ys j end below within le is wrong g h d =
-        let moved = swap xs ys j end below within le is in record {
-          edges = λ k z b n. each_edge xs ys j moved below k z
-              (λ e a. oneway _ _ (wrong a))
-              (λ _ e. g k z b e)
-              (λ e. absurd (n e))
-              (λ e. subst (λ p. Over cmp xs (parent p) j) (sym e) (λ a. (h a).across j (omega arith) within refl))
-              (λ _ m _ a. (h a).edges k z b m) d;
-          across = λ k z b e. came xs ys (parent j) j k k (from_second xs ys (parent j) j moved (parent j) refl)
-              (stayed xs ys (parent j) j moved k (omega arith) (omega arith))
-              (subst (λ p. Over cmp xs p k) e (λ a. (h a).edges k (omega arith) b (omega arith))) d;
-        }
+        sinks cmp oneway chain (λ m. get_or xs m d) (λ m. get_or ys m d) (parent j) j end refl below within (swap xs ys j end below within le is d) (wrong d)
+        (λ k z b e. g k z b e d) (h d)
 
     -- the first key of a heap is over all
     pub over_all : (xs : List X) (end : ℕ) → Heaped cmp xs end → (n k : ℕ) → k < n → k < end → Over cmp xs 0 k
-    over_all xs end h zero k a b = absurd (omega arith)
-    over_all xs end h (suc n) k a b =
-        ⊎_elim
-        (λ e. subst (Over cmp xs 0) (sym e) (over_itself xs 0))
-        (λ m. over_over xs 0 (parent k) k (over_all xs end h n (parent k) (omega arith) (omega arith)) (h k (omega arith) b))
-        (cases_eq k 0)
+    over_all xs end h n k a b d = first_over cmp oneway chain (λ m. get_or xs m d) end (λ k z b. h k z b d) n k a b
 
 -- § The keys, in whatever order
 
@@ -300,10 +271,12 @@ pushed cmp xs ys n x le s sifted =
 -- § What `pop` leaves
 
 -- zs is xs with the first and the last of its n keys exchanged, and ys is zs with the others sifted
-module _ {X : Type 0} (cmp : X → X → Ordering) (o : IsTotalOrder cmp) (xs zs ys : List X) (n : ℕ) (x : X)
+module _ {X : Type 0} (cmp : X → X → Ordering)
+    (oneway : (x y : X) → is_lt (cmp x y) ≡ true → is_lt (cmp y x) ≡ false)
+    (chain : (x y z : X) → is_lt (cmp x y) ≡ false → is_lt (cmp y z) ≡ false → is_lt (cmp x z) ≡ false) (xs zs ys : List X) (n : ℕ) (x : X)
     (some : 0 < n) (le : n ≤ length xs) (is : zs ≡ exchanged xs 0 (n - 1)) (first : x ≡ get_or xs 0 x) (sifted : Rearranged zs ys (n - 1)) where
-  exchange : (d : X) → Swapped (λ m. get_or xs m d) (λ m. get_or zs m d) 0 (n - 1)
-  exchange d = swapped_from_swap xs zs 0 (n - 1) d (omega arith) (omega arith) is
+  exchange : Exchange xs zs 0 (n - 1)
+  exchange = exchanges xs zs 0 (n - 1) (omega arith) (omega arith) is
 
   popped_rearranged : IsPermutation (take n xs) (take (n - 1) ys ++ x ∷ []) × (drop n ys ≡ drop n xs)
   popped_rearranged =
@@ -321,41 +294,25 @@ module _ {X : Type 0} (cmp : X → X → Ordering) (o : IsTotalOrder cmp) (xs zs
 
   -- without its first key and its last
   headless : Heaped cmp xs n → HeapedPast cmp zs (n - 1)
-  headless h k z b d =
-      let same = (exchange d).2 k in
-      let same_above = (exchange d).2 (parent k) in
-      let edge = h k in
-      grind arith
+  headless h = let last : n - 1 + 1 ≡ n = omega arith in headless_exchanged cmp xs zs (n - 1) exchange (rw last h)
 
   greatest : Heaped cmp xs n → AllByRecursion (λ y. is_lt (cmp x y) ≡ false) (take n xs)
   greatest h =
       let front_length : length (take n xs) ≡ n = simp length-take (omega arith) in
       All-from_get_or (λ y. is_lt (cmp x y) ≡ false) (take n xs) x (λ k b.
-      let over = first_over cmp o (λ m. get_or xs m x) n (λ k z b. h k z b x) (k + 1) k in
+      let over = first_over cmp oneway chain (λ m. get_or xs m x) n (λ k z b. h k z b x) (k + 1) k in
       let there = get_or-take n xs k x in
       grind arith)
 
   pub popped : (HeapedPast cmp zs (n - 1) → Heaped cmp ys (n - 1)) → Popped cmp xs ys n x
   popped mends = record { keys = popped_rearranged.0; rest = popped_rearranged.1; heaped = λ h. mends (headless h); greatest = greatest }
 
--- the same where the last key stands at `last`, by no more than what is needed of an order
+-- the same where the last key stands at `last`
 pub popped_last : {X : Type 0} (cmp : X → X → Ordering)
     (oneway : (x y : X) → is_lt (cmp x y) ≡ true → is_lt (cmp y x) ≡ false)
     (chain : (x y z : X) → is_lt (cmp x y) ≡ false → is_lt (cmp y z) ≡ false → is_lt (cmp x z) ≡ false)
     (xs zs ys : List X) (last : ℕ) (x : X) → last < length xs → zs ≡ exchanged xs 0 last → x ≡ get_or xs 0 x → Rearranged zs ys last →
     (HeapedPast cmp zs last → Heaped cmp ys last) → Popped cmp xs ys (last + 1) x
-popped_last cmp oneway chain xs zs ys last x le is x-is s sifted =
-    let moved = exchanges xs zs 0 last (omega arith) le is in
-    let once : Rearranged xs zs (last + 1) = rearranged_more zs 0 last (last + 1) (omega arith) (omega arith) (omega arith) is rearranged_none in
-    let same_length : length zs ≡ length xs = ap length is ∙ length-swap xs 0 last in
-    let ends : take (last + 1) zs ≡ take last zs ++ x ∷ [] = take_more zs last x (omega arith) ∙ ap (λ y. take last zs ++ y ∷ []) ((moved x).1 ∙ sym x-is) in
-    let less : last ≡ last + 1 - 1 = omega arith in
-    let front_length : length (take (last + 1) xs) ≡ last + 1 = simp length-take (omega arith) in record {
-      keys = subst (λ m. IsPermutation (take (last + 1) xs) (take m ys ++ x ∷ [])) less (IsPermutation-trans _ _ _ once.keys
-          (subst (λ m. IsPermutation m (take last ys ++ x ∷ [])) (sym ends) (IsPermutation-append_left (x ∷ []) (take last zs) (take last ys) s.keys)));
-      rest = sym (drop-drop 1 last ys) ∙ ap (drop 1) s.rest ∙ drop-drop 1 last zs ∙ once.rest;
-      heaped = λ h. subst (Heaped cmp ys) less (sifted (headless_exchanged cmp xs zs last moved h));
-      greatest = λ h. All-from_get_or (λ y. is_lt (cmp x y) ≡ false) (take (last + 1) xs) x (λ k b.
-          let y-is = get_or-take (last + 1) xs k x (omega arith) in
-          (λ t. is_lt (cmp (x-is t) (y-is t))) ∙ over_all cmp oneway chain xs (last + 1) h (k + 1) k (omega arith) (omega arith) x);
-    }
+popped_last cmp oneway chain xs zs ys last x le is first sifted mends =
+    let one : last + 1 - 1 ≡ last = omega arith in
+    popped cmp oneway chain xs zs ys (last + 1) x (omega arith) (omega arith) (rw one is) first (rw one sifted) (rw one mends)

@@ -7,12 +7,13 @@ use Rattle.std.specs.Result.{OkIff, result_ok}
 use Rattle.std.specs.Str.Parse.{digits_value, AllDigits}
 use Rattle.std.specs.Int.{IsInRange}
 use Rattle.std.specs.Char.{digit_value as digitValue}
-use Rattle.std.proofs.lemmas.Str.Parse.{IsNumeralModel, numerals_by_value, tells_digits, digit_at, digits_value_short, not_in_digits}
+use Rattle.std.proofs.lemmas.Str.Parse.{IsNumeralModel, numerals_by_value, tells_digits, digit_at, digits_value_short}
 use Rattle.std.proofs.lemmas.Fmt.{decimal-digits_value, digits_decimal, digits_value-decimal, decimal_nonempty, length-decimal-le, first_decimal, decimal_digit, decimal_injective}
 use Rattle.std.proofs.lemmas.Int.Digits.{digits_value_more, digits_more}
 use Rattle.std.proofs.lemmas.Str.{digit_value_digit}
 use Rattle.std.proofs.lemmas.Bool.{cases_lt}
 use Rattle.lines.specs.Parts.{Lacks, WritesNumber}
+use Rattle.lines.proofs.Splits.{lacks_outside}
 
 base_ten : IsNumeralModel (AllDigits 10) (digits_value 10)
 base_ten = numerals_by_value (AllDigits 10) tells_digits
@@ -23,7 +24,7 @@ decimal_digits n h = All-from_get_or (IsInRange 48 57) (decimal n) 0 (digits_dec
 
 -- so a number lacks every other byte
 pub decimal_lacks : (n b : ℕ) → n < 2 ^ 16 → (48 ≤ b → b ≤ 57 → ⊥) → Lacks (decimal n) b
-decimal_lacks n b h o = not_in_digits base_ten (decimal n) b (digits_decimal base_ten n (omega arith)) (λ p. o p.0 p.1)
+decimal_lacks n b h o = lacks_outside 48 57 b (decimal n) (decimal_digits n h) (λ p. o p.0 p.1)
 
 -- a number has five digits at most
 pub decimal_short : (n : ℕ) → n < 2 ^ 16 → length (decimal n) ≤ 5
@@ -40,7 +41,7 @@ module _ (s : List ℕ) (n : ℕ) (w : WritesNumber s n) where
   not_empty e = omega (arith, decimal_nonempty n fits_64, ap length w.text)
 
   pub not_long : 5 < length s → ⊥
-  not_long h = omega (arith, length-decimal-le 5 n (omega arith) (omega (arith, w.fits)) fits_64, ap length w.text)
+  not_long h = omega (arith, decimal_short n w.fits, ap length w.text)
 
   pub not_padded : (1 < length s) × (get_or s 0 0 ≡ 48) → ⊥
   not_padded q =

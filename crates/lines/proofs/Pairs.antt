@@ -2,11 +2,11 @@
 use Rattle.std.proofs.Common.{◌≡◌, ℕ, ◌^◌, ◌<◌, List, decimal, sym, ◌∙◌, subst, arith}
 use Rattle.lines.specs.Forms.{comma, decimal_pair}
 use Rattle.lines.specs.Parts.{Lacks, SplitsAt, WritesNumber, WritesPair}
-use Rattle.lines.proofs.Splits.{same_split, not_lacked, lacks_outside}
-use Rattle.lines.proofs.Numbers.{decimal_digits, same_number}
+use Rattle.lines.proofs.Splits.{same_split, not_lacked}
+use Rattle.lines.proofs.Numbers.{decimal_lacks, same_number}
 
 lacks_comma : (n : ℕ) → n < 2 ^ 16 → Lacks (decimal n) comma
-lacks_comma n h = lacks_outside 48 57 comma (decimal n) (decimal_digits n h) (λ p. omega arith)
+lacks_comma n h = decimal_lacks n comma h (λ l u. omega arith)
 
 pub no_pair : (s : List ℕ) → Lacks s comma → (m n : ℕ) → WritesPair s m n → ⊥
 no_pair s p m n w = not_lacked comma (decimal m) (decimal n) (subst (λ t. Lacks t comma) w.text p)

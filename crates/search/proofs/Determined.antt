@@ -1,5 +1,5 @@
 -- The promises leave one answer and one content of the slice. Assumes nothing.
-use Rattle.std.proofs.Common.{◌≡◌, ℕ, zero, suc, ◌≤◌, List, length, take, drop, Some, None, Ok, Err, Option, Result, sym, refl, ap, ◌∙◌, arith, take-append-drop, Bool, cond, ltb}
+use Rattle.std.proofs.Common.{◌≡◌, ℕ, zero, suc, ◌≤◌, List, length, take, drop, Some, None, Ok, Err, Option, Result, sym, refl, ap, ◌∙◌, arith, take-append-drop, Bool, cond, leb, ltb}
 use Rattle.search.specs.declared.Refusal.TheVariants.{NoVertex, ShortSlice}
 use Rattle.std.proofs.lemmas.Bool.Decides.{nat_tests}
 use Rattle.std.proofs.lemmas.List.{length-take-le}
@@ -12,19 +12,18 @@ use Rattle.search.specs.Trace.{TraceWritten, TraceAnswer}
 use Rattle.search.proofs.Lists.{same_ascending, all_at}
 use Rattle.search.proofs.Traces.{trace_one}
 
--- a call that is not refused has room
-enough : (n s room : ℕ) → refusal n s room ≡ None → n ≤ room
-enough n s room e = grind (arith, nat_tests)
-
-enough_of_two : (n s t room : ℕ) → refusal_of_two n s t room ≡ None → n ≤ room
-enough_of_two n s t room e = grind (arith, nat_tests)
-
--- the same whatever the tests of the vertices are
+-- a call that is not refused has room, whatever the tests of its vertices are
 pub enough_by_test : (b : Bool) (room n : ℕ) → cond b (Some NoVertex) (cond (ltb room n) (Some ShortSlice) None) ≡ None → n ≤ room
 enough_by_test b room n e = grind (arith, nat_tests)
 
 pub enough_by_tests : (a b : Bool) (room n : ℕ) → cond a (Some NoVertex) (cond b (Some NoVertex) (cond (ltb room n) (Some ShortSlice) None)) ≡ None → n ≤ room
 enough_by_tests a b room n e = grind (arith, nat_tests)
+
+enough : (n s room : ℕ) → refusal n s room ≡ None → n ≤ room
+enough n s room e = enough_by_test (leb n s) room n e
+
+enough_of_two : (n s t room : ℕ) → refusal_of_two n s t room ≡ None → n ≤ room
+enough_of_two n s t room e = enough_by_tests (leb n s) (leb n t) room n e
 
 -- two lists with one written part and one rest
 pub same_written : (before after after' : List ℕ) (c d : ℕ) → c ≡ d → take c after ≡ take d after' →

@@ -11,7 +11,7 @@ use Rattle.std.proofs.lemmas.List.Sums.{count_by-le-length, sum_by-set}
 use Rattle.graph.specs.Model.{Model, Proper, NextSuccessor}
 use Rattle.graph.specs.Paths.{Path, stay, walk}
 use Rattle.search.specs.Under.{Marked}
-use Rattle.graph.proofs.Paths.{join_paths, no_path}
+use Rattle.graph.proofs.Paths.{join_paths, no_path, path_inside}
 
 -- how many marks are set
 abbrev pub ones : List Bool → ℕ
@@ -63,11 +63,7 @@ some_mark (suc n) [] h = absurd (omega arith)
 some_mark (suc n) (true ∷ marks) h = (0, omega arith, refl)
 some_mark (suc n) (false ∷ marks) h = let found = some_mark n marks h in (suc found.0, omega (arith, found.1), found.2)
 
--- a path that has one end among the vertices has both there
-path_below : {m : Model} → Proper m → {a b : ℕ} → Path m a b → a < m.order → b < m.order
-path_below k stay l = l
-path_below k (walk {u} {v} e p) l = path_below k p (k.within u v e).1
-
+-- a path to a vertex begins at a vertex
 starts_below : {m : Model} → Proper m → {a b : ℕ} → Path m a b → b < m.order → a < m.order
 starts_below k stay l = l
 starts_below k (walk {u} {v} e p) l = (k.within u v e).0
@@ -81,7 +77,7 @@ module _ {m : Model} {s : ℕ} {late : ℕ → ℕ → Type 0} {waiting : List �
   pub stacked_below : (x : ℕ) → Contains waiting x → x < m.order
   stacked_below x i =
       let found = some_mark m.order marks (omega (arith, h.room, i.1)) in
-      path_below h.proper (h.stacked x i) (starts_below h.proper (h.sound found.0 found.2) found.1)
+      path_inside m h.proper (h.stacked x i) (starts_below h.proper (h.sound found.0 found.2) found.1)
 
 -- the same, where other arcs are yet to be looked at
 turned : {m : Model} {s : ℕ} {late : ℕ → ℕ → Type 0} (late' : ℕ → ℕ → Type 0) {waiting : List ℕ} {marks : List Bool} → Holds m s late waiting marks →
@@ -184,9 +180,5 @@ module _ (m : Model) (s : ℕ) where
   pub outside : Proper m → m.order ≤ s → Marked m s (replicate 512 false)
   outside p l x b = (
     λ q. absurd (both_ways _ (no_mark 512 x) q),
-    λ r. absurd (no_path (λ q. far q b l) r),
+    λ r. absurd (no_path (λ q. omega (arith, starts_below p q b)) r),
   )
-    where
-      far : {a d : ℕ} → Path m a d → d < m.order → m.order ≤ a → ⊥
-      far stay i j = omega arith
-      far (walk {u} {v} a q) i j = omega (arith, (p.within u v a).0)

@@ -2,7 +2,7 @@ use Rattle.std.proofs.Common.{arith}
 use Rattle.std.proofs.lemmas.Bool.{cases_eq}
 use Rattle.std.proofs.lemmas.List.Edits.{swapped_from_swap}
 use Rattle.heap.specs.Heaps.{parent}
-use Rattle.heap.proofs.Sifts.{rearranged_more, sinks}
+use Rattle.heap.proofs.Sifts.{rearranged_more, sinks, turned, chained}
 use Rattle.heap.proofs.sift_down.Goals as goal
 
 pub returns-then-not-is_less-clause-heaped : goal.returns-then-not-is_less-clause-heaped
@@ -22,7 +22,7 @@ loop-parent-preserved g c =
       sinking = λ h d.
           let less = c.is_less.ensures d in
           let swap = swapped_from_swap l.heap w.new.self l.parent child.result d (omega arith) (omega arith) w.ensures.after in
-          sinks g.K.Ord.cmp g.met.K.Ord.total _ _ l.parent child.result _ (omega arith) (omega arith) (omega arith) swap (grind arith)
+          sinks g.K.Ord.cmp (turned g.K.Ord.cmp g.met.K.Ord.total) (chained g.K.Ord.cmp g.met.K.Ord.total) _ _ l.parent child.result _ (omega arith) (omega arith) (omega arith) swap (grind arith)
           (λ k z b e. child.ensures.greatest k z b e d) (l.invariant.sinking h d);
     }
 

@@ -1,7 +1,7 @@
 use Rattle.std.proofs.Common.{refl, arith}
 use Rattle.std.proofs.lemmas.Bool.{cases_eq}
 use Rattle.std.proofs.lemmas.List.Edits.{swapped_from_swap}
-use Rattle.heap.proofs.Sifts.{rearranged_more, rises}
+use Rattle.heap.proofs.Sifts.{rearranged_more, rises, turned, chained}
 use Rattle.heap.proofs.sift_up.Goals as goal
 
 pub returns-then-not-is_less-clause-heaped : goal.returns-then-not-is_less-clause-heaped
@@ -19,7 +19,7 @@ loop-child-preserved g c =
       rising = λ h d.
           let less = c.is_less.ensures d in
           let swap = swapped_from_swap l.heap w.new.self _ l.child d (omega arith) (omega arith) w.ensures.after in
-          rises g.K.Ord.cmp g.met.K.Ord.total _ _ _ l.child _ refl (omega arith) (omega arith) swap (grind arith) (l.invariant.rising h d);
+          rises g.K.Ord.cmp (turned g.K.Ord.cmp g.met.K.Ord.total) (chained g.K.Ord.cmp g.met.K.Ord.total) _ _ _ l.child _ refl (omega arith) (omega arith) swap (grind arith) (l.invariant.rising h d);
     }
 
 pub returns-clause-heaped : goal.returns-clause-heaped
